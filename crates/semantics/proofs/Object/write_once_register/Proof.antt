@@ -1,0 +1,11 @@
+use mathlib.Core.Path.{refl}
+use Rattle.semantics.specs.Calls.{newOnce}
+use Rattle.semantics.proofs.Object.write_once_register.Statement.{statement}
+use Rattle.semantics.proofs.Object.write_once_register.Tie as tie
+
+returns : tie.Need-returns
+unfolding newOnce
+returns c = refl
+
+pub write-once-register-spec : {M : Type 1} → statement M
+write-once-register-spec = tie.close (tie.spec returns)

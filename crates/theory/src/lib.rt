@@ -1,0 +1,1 @@
+// This crate has specs alone: the search over an abstract tree.
