@@ -1,15 +1,16 @@
 -- Laws that the proofs of several functions cite.
 use Prim.Native.Nat.{ℕ, _<_, _^_}
-use mathlib.Core.Path.{_≡_, sym, ap, _∙_, refl, subst}
+use mathlib.Core.Path.{_≡_, sym, ap, _∙_, refl}
 use mathlib.Core.Bool.{Bool, true, false}
 use lib.Dec.{eqb}
 use native.Mathlib.Omega.{arith}
-use borrow.Author.Tests.{eq-eqb, ne-eqb, eqb-true, eqb-false}
+use borrow.Author.Tests.{eq-eqb, ne-eqb}
 use Rattle.semantics.specs.Value.{eqZ}
+use Rattle.semantics.specs.Same.{values}
 use Rattle.semantics.specs.WriteOnce.{writeAnswer, sameOnceRet}
 use Rattle.semantics.specs.declared.value.Maybe.{Maybe}
-use Rattle.semantics.specs.declared.write_once_register.WORegisterRet.the-variants.{WriteOk, WriteFail, ReadOk}
-use lib.IntN.{ℤ, pos, negsuc}
+use Rattle.semantics.specs.declared.write_once_register.WORegisterRet.the-variants.{WriteOk, ReadOk}
+use lib.IntN.{ℤ}
 use lib.Signed.{mag}
 use mir.Syntax.{w32}
 use mir.Val.{toZ, ofZ, hbits, SFits}
@@ -19,21 +20,9 @@ use mir.Facts.{toZ-ofZ}
 pub back : (z : ℤ) → mag z < 2 ^ hbits w32 → toZ w32 (ofZ w32 z) ≡ z
 back z h = toZ-ofZ (record { sfits = h })
 
-pub eqZ-eq : (a b : ℤ) → eqZ a b ≡ true → a ≡ b
-unfolding eqZ
-eqZ-eq (pos a) (pos b) h = ap pos (eqb-true a b h)
-eqZ-eq (pos a) (negsuc b) h = cc
-eqZ-eq (negsuc a) (pos b) h = cc
-eqZ-eq (negsuc a) (negsuc b) h = ap negsuc (eqb-true a b h)
-
-pub eqZ-refl : (a : ℤ) → eqZ a a ≡ true
-unfolding eqZ
-eqZ-refl (pos a) = eq-eqb a a refl
-eqZ-refl (negsuc a) = eq-eqb a a refl
-
 eqZ-ne : (a b : ℤ) → eqZ a b ≡ false → a ≡ b → ⊥
 eqZ-ne a b f q =
-    let e : eqZ a b ≡ true = rw q (eqZ-refl b) in
+    let e : eqZ a b ≡ true = rw q (values .self b) in
     let z : _≡_ {A = ℕ} 0 1 = cc in omega arith
 
 -- the bits are equal exactly where the numbers are
@@ -41,7 +30,7 @@ pub eqZ-bits : (a b : ℤ) → SFits w32 a → SFits w32 b → eqb (ofZ w32 a) (
 eqZ-bits a b ha hb = go (eqZ a b) refl
   where
     go : (t : Bool) → eqZ a b ≡ t → eqb (ofZ w32 a) (ofZ w32 b) ≡ t
-    go true e = eq-eqb _ _ (ap (ofZ w32) (eqZ-eq a b e))
+    go true e = eq-eqb _ _ (ap (ofZ w32) (values .equal a b e))
     go false e = ne-eqb (ofZ w32 a) (ofZ w32 b) (λ h. eqZ-ne a b e (sym (toZ-ofZ ha) ∙ ap (toZ w32) h ∙ toZ-ofZ hb))
 
 -- a Write answers WriteOk exactly if it succeeds, and never with a value

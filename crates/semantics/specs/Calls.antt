@@ -1,14 +1,13 @@
 -- What each call on a bare object hands back.
 use Prim.Native.Nat.{ℕ}
-use mathlib.Core.Bool.{Bool, true, false, _&&_}
-use mathlib.Core.List.{List, [], _∷_}
+use mathlib.Core.Bool.{Bool, true, false}
+use mathlib.Core.List.{List}
 use lib.ListN.{replicate}
 use lib.IntN.{ℤ, pos}
-use lib.Dec.{ltb}
 use Rattle.semantics.specs.Value.{pick}
 use Rattle.semantics.specs.Stack.{room}
 use Rattle.semantics.specs.Placing.{heldOf, kindOf, answerOf, rightOf, heldAfter, leavesOf}
-use Rattle.semantics.specs.Refusals.{depthOf, invokeCheck, stepCheck}
+use Rattle.semantics.specs.Refusals.{shapeCheck, invokeCheck, stepCheck}
 use Rattle.semantics.specs.declared.value.Maybe.{Maybe}
 use Rattle.semantics.specs.declared.Kind.{Kind}
 use Rattle.semantics.specs.declared.Kind.the-variants.{Register, WORegister, Vec}
@@ -17,12 +16,8 @@ use Rattle.semantics.specs.declared.Op.{Op}
 use Rattle.semantics.specs.declared.Op.the-variants.{Register as ORegister, WORegister as OWORegister, Vec as OVec}
 use Rattle.semantics.specs.declared.Ret.{Ret}
 use Rattle.semantics.specs.declared.Ret.the-variants.{Register as RRegister, WORegister as RWORegister, Vec as RVec}
-use Rattle.semantics.specs.declared.vec.VecOp.{VecOp}
 use Rattle.semantics.specs.declared.vec.VecOp.the-variants.{Push, Pop, Len}
-use Rattle.semantics.specs.declared.vec.VecRet.{VecRet}
 use Rattle.semantics.specs.declared.vec.VecRet.the-variants.{PushOk, PopOk, LenOk}
-use Rattle.semantics.specs.declared.refusal.Refusal.{Refusal}
-use Rattle.semantics.specs.declared.refusal.Refusal.the-variants.{OtherFamily, NoRoom, OutOfShape}
 use Rattle.semantics.specs.declared.refusal.Check.{Check}
 use Rattle.semantics.specs.declared.refusal.Check.the-variants.{Clear, Refused}
 use Rattle.semantics.specs.declared.Answer.{Answer}
@@ -100,8 +95,12 @@ stepOf o op ret = stepBy (stepCheck (o .kind) op ret) o op ret
 
 -- `is_valid_history`: the answer for no steps, and the answer for one step more: the first no or refusal stays
 
+abbrev pub begunBy : Check → Object → Stepped
+begunBy (Refused r) o = stepped (SRefused r) o
+begunBy Clear o = stepped Yes o
+
 unfoldable pub begunOf : Object → Stepped
-begunOf o = pick (ltb room (depthOf (o .kind))) (stepped (SRefused OutOfShape) o) (stepped Yes o)
+begunOf o = begunBy (shapeCheck (o .kind)) o
 
 abbrev pub thenBy : Said → Stepped → Op → Ret → Stepped
 thenBy Yes s op ret = stepOf (s .object) op ret

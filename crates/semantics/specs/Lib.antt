@@ -2,7 +2,16 @@ pub mod Value
 pub mod Register
 pub mod WriteOnce
 pub mod Stack
-pub mod Placing
 pub mod Families
+pub mod Placing
+pub mod Family
 pub mod Refusals
 pub mod Calls
+pub mod Same
+pub mod Storage
+pub mod Undoing
+pub mod Meaning
+pub mod Clear
+pub mod Invoking
+pub mod Steps
+pub mod Histories

@@ -1,14 +1,15 @@
 -- Placing an operation and undoing it: what an object holds, in two words and a stack's items.
-use Prim.Native.Nat.{ℕ, _+_, _-_}
-use mathlib.Core.Bool.{Bool, true, false}
+use Prim.Native.Nat.{ℕ, _-_}
+use mathlib.Core.Bool.{Bool, true}
 use mathlib.Core.List.{List}
 use lib.ListN.{set}
 use lib.IntN.{ℤ, pos}
 use lib.Dec.{ltb, eqb}
 use Rattle.semantics.specs.Value.{pick}
-use Rattle.semantics.specs.Register.{registerAnswer, registerAfter, sameRegisterRet}
-use Rattle.semantics.specs.WriteOnce.{onceAnswer, onceAfter, sameOnceRet}
-use Rattle.semantics.specs.Stack.{room, itemAt, storageAnswer, sameVecRet, depthAfter, itemsAfter, frees}
+use Rattle.semantics.specs.Register.{registerAnswer, registerAfter}
+use Rattle.semantics.specs.WriteOnce.{onceAnswer, onceAfter}
+use Rattle.semantics.specs.Stack.{room, itemAt, storageAnswer, depthAfter, itemsAfter, frees}
+use Rattle.semantics.specs.Families.{sameRet}
 use Rattle.semantics.specs.declared.value.Maybe.{Maybe}
 use Rattle.semantics.specs.declared.value.Maybe.the-variants.{Nothing, Value}
 use Rattle.semantics.specs.declared.Kind.{Kind}
@@ -22,7 +23,6 @@ use Rattle.semantics.specs.declared.placing.Undo.{Undo}
 use Rattle.semantics.specs.declared.placing.Acted.{Acted}
 use Rattle.semantics.specs.declared.placing.Outcome.{Outcome}
 use Rattle.semantics.specs.declared.placing.Outcome.the-variants.{Pending, Returned}
-use Rattle.semantics.specs.declared.vec.VecOp.{VecOp}
 use Rattle.semantics.specs.declared.vec.VecOp.the-variants.{Push, Pop, Len}
 
 -- the two words
@@ -55,17 +55,6 @@ unfoldable pub answerOf : List ℤ → Held → Op → Ret
 answerOf items h (ORegister p) = RRegister (registerAnswer (h .value) p)
 answerOf items h (OWORegister p) = RWORegister (onceAnswer (onceOf h) p)
 answerOf items h (OVec p) = RVec (storageAnswer items (h .height) p)
-
-unfoldable pub sameRet : Ret → Ret → Bool
-sameRet (RRegister a) (RRegister b) = sameRegisterRet a b
-sameRet (RRegister a) (RWORegister b) = false
-sameRet (RRegister a) (RVec b) = false
-sameRet (RWORegister a) (RRegister b) = false
-sameRet (RWORegister a) (RWORegister b) = sameOnceRet a b
-sameRet (RWORegister a) (RVec b) = false
-sameRet (RVec a) (RRegister b) = false
-sameRet (RVec a) (RWORegister b) = false
-sameRet (RVec a) (RVec b) = sameVecRet a b
 
 unfoldable pub rightOf : List ℤ → Held → Op → Ret → Bool
 rightOf items h op ret = sameRet (answerOf items h op) ret

@@ -4,16 +4,14 @@ use mathlib.Core.Bool.{Bool, true, false}
 use lib.Dec.{ltb, eqb}
 use Rattle.semantics.specs.Value.{pick}
 use Rattle.semantics.specs.Stack.{room}
-use Rattle.semantics.specs.Families.{familyOf, opFamily, retFamily}
+use Rattle.semantics.specs.Family.{familyOf, opFamily, retFamily}
 use Rattle.semantics.specs.declared.Kind.{Kind}
 use Rattle.semantics.specs.declared.Kind.the-variants.{Register, WORegister, Vec}
 use Rattle.semantics.specs.declared.Op.{Op}
 use Rattle.semantics.specs.declared.Op.the-variants.{Register as ORegister, WORegister as OWORegister, Vec as OVec}
 use Rattle.semantics.specs.declared.Ret.{Ret}
 use Rattle.semantics.specs.declared.Ret.the-variants.{Register as RRegister, WORegister as RWORegister, Vec as RVec}
-use Rattle.semantics.specs.declared.vec.VecOp.{VecOp}
 use Rattle.semantics.specs.declared.vec.VecOp.the-variants.{Push, Pop, Len}
-use Rattle.semantics.specs.declared.vec.VecRet.{VecRet}
 use Rattle.semantics.specs.declared.vec.VecRet.the-variants.{PushOk, PopOk, LenOk}
 use Rattle.semantics.specs.declared.refusal.Refusal.{Refusal}
 use Rattle.semantics.specs.declared.refusal.Refusal.the-variants.{OtherFamily, NoRoom, OutOfShape}
@@ -45,20 +43,32 @@ isPushed (RVec PushOk) = true
 isPushed (RVec (PopOk m)) = false
 isPushed (RVec (LenOk n)) = false
 
--- Push on a stack of 96
-unfoldable pub noRoom : Kind → Op → Bool
-noRoom k op = pick (isPush op) (eqb (depthOf k) room) false
+-- the first refusal of two checks
+unfoldable pub inOrder : Check → Check → Check
+inOrder Clear b = b
+inOrder (Refused r) b = Refused r
 
--- a depth over 96; an operation of another family; no room
+-- a depth over 96
+unfoldable pub shapeCheck : Kind → Check
+shapeCheck k = pick (ltb room (depthOf k)) (Refused OutOfShape) Clear
+
+-- an operation or return of another family
+unfoldable pub familyCheck : Kind → ℕ → Check
+familyCheck k f = pick (eqb f (familyOf k)) Clear (Refused OtherFamily)
+
+-- Push on a stack of 96; for a step: Push with PushOk
+
+unfoldable pub roomCheck : Kind → Op → Check
+roomCheck k op = pick (isPush op) (pick (eqb (depthOf k) room) (Refused NoRoom) Clear) Clear
+
+unfoldable pub pushedCheck : Kind → Op → Ret → Check
+pushedCheck k op ret = pick (isPushed ret) (roomCheck k op) Clear
+
+-- 9, 3, 7
+
 unfoldable pub invokeCheck : Kind → Op → Check
-invokeCheck k op =
-    pick (ltb room (depthOf k)) (Refused OutOfShape)
-    (pick (eqb (opFamily op) (familyOf k)) (pick (noRoom k op) (Refused NoRoom) Clear) (Refused OtherFamily))
+invokeCheck k op = inOrder (shapeCheck k) (inOrder (familyCheck k (opFamily op)) (roomCheck k op))
 
--- the same with the return's family; no room only for Push with PushOk
 unfoldable pub stepCheck : Kind → Op → Ret → Check
 stepCheck k op ret =
-    pick (ltb room (depthOf k)) (Refused OutOfShape)
-    (pick (eqb (retFamily ret) (familyOf k))
-    (pick (isPushed ret) (invokeCheck k op) (pick (eqb (opFamily op) (familyOf k)) Clear (Refused OtherFamily)))
-    (Refused OtherFamily))
+    inOrder (shapeCheck k) (inOrder (familyCheck k (opFamily op)) (inOrder (familyCheck k (retFamily ret)) (pushedCheck k op ret)))

@@ -3,7 +3,7 @@ use crate::Kind;
 use crate::Op;
 use crate::Ret;
 ghost use mathlib.Core.Path.{_≡_};
-ghost use Rattle.semantics.specs.Families.{familyOf, opFamily, retFamily};
+ghost use Rattle.semantics.specs.Family.{familyOf, opFamily, retFamily};
 
 pub fn family_of(kind: Kind) -> u8
     ensures { λ r. ⌜ r ≡ familyOf kind ⌝ }

@@ -13,7 +13,6 @@ use refusal::Check;
 use refusal::Refusal;
 use register::RegisterOp;
 use register::RegisterRet;
-use sizes::FULL;
 use sizes::ROOM;
 use value::Maybe;
 use vec::VecOp;
@@ -219,10 +218,10 @@ pub fn is_valid_step(object: Object, op: Op, ret: Ret) -> Stepped
             }
             if is_pop(op) {
                 if is_popped(ret) {
-                    let after = left_by(object, op);
+                    let popped = left_by(object, op);
                     return Stepped {
                         said: Said::No,
-                        object: after,
+                        object: popped,
                     };
                 }
             }
@@ -240,16 +239,15 @@ pub fn is_valid_history(object: Object) -> Stepped
     ensures { λ r. ⌜ r ≡ begunOf object ⌝ }
 {
     let kind = object.kind;
-    if FULL < refusal::depth_of(kind) {
-        let refusal = Refusal::OutOfShape;
-        return Stepped {
+    match refusal::check_shape(kind) {
+        Check::Refused(refusal) => Stepped {
             said: Said::Refused(refusal),
             object,
-        };
-    }
-    Stepped {
-        said: Said::Yes,
-        object,
+        },
+        Check::Clear => Stepped {
+            said: Said::Yes,
+            object,
+        },
     }
 }
 

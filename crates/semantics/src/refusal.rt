@@ -9,7 +9,7 @@ use crate::sizes::FULL;
 use crate::vec::VecOp;
 use crate::vec::VecRet;
 ghost use mathlib.Core.Path.{_≡_};
-ghost use Rattle.semantics.specs.Refusals.{numberOf, depthOf, isPush, isPushed, noRoom, invokeCheck, stepCheck};
+ghost use Rattle.semantics.specs.Refusals.{numberOf, depthOf, isPush, isPushed, inOrder, shapeCheck, familyCheck, roomCheck, pushedCheck, invokeCheck, stepCheck};
 
 pub enum Refusal {
     OtherFamily,
@@ -72,52 +72,73 @@ pub fn is_pushed(ret: Ret) -> bool
     }
 }
 
-// Whether the operation is a Push on a full stack.
-pub fn no_room(kind: Kind, op: Op) -> bool
-    ensures { λ r. ⌜ r ≡ noRoom kind op ⌝ }
+// The first refusal of two checks.
+pub fn in_order(first: Check, second: Check) -> Check
+    ensures { λ r. ⌜ r ≡ inOrder first second ⌝ }
 {
-    if is_push(op) {
-        return depth_of(kind) == FULL;
+    match first {
+        Check::Clear => second,
+        Check::Refused(_) => first,
     }
-    false
 }
 
-// For an operation: shape, family, room.
-pub fn check_invoke(kind: Kind, op: Op) -> Check
-    ensures { λ r. ⌜ r ≡ invokeCheck kind op ⌝ }
+pub fn check_shape(kind: Kind) -> Check
+    ensures { λ r. ⌜ r ≡ shapeCheck kind ⌝ }
 {
     if FULL < depth_of(kind) {
         let refusal = Refusal::OutOfShape;
         return Check::Refused(refusal);
     }
-    if op_family(op) == family_of(kind) {
-        if no_room(kind, op) {
-            let refusal = Refusal::NoRoom;
-            return Check::Refused(refusal);
-        }
+    Check::Clear
+}
+
+pub fn check_family(kind: Kind, family: u8) -> Check
+    ensures { λ r. ⌜ r ≡ familyCheck kind family ⌝ }
+{
+    if family == family_of(kind) {
         return Check::Clear;
     }
     let refusal = Refusal::OtherFamily;
     Check::Refused(refusal)
 }
 
-// For a step: shape, both families, room where the return says that it was pushed.
+pub fn check_room(kind: Kind, op: Op) -> Check
+    ensures { λ r. ⌜ r ≡ roomCheck kind op ⌝ }
+{
+    if is_push(op) {
+        if depth_of(kind) == FULL {
+            let refusal = Refusal::NoRoom;
+            return Check::Refused(refusal);
+        }
+    }
+    Check::Clear
+}
+
+// A step wants room where its return says that it was pushed.
+pub fn check_pushed(kind: Kind, op: Op, ret: Ret) -> Check
+    ensures { λ r. ⌜ r ≡ pushedCheck kind op ret ⌝ }
+{
+    if is_pushed(ret) {
+        return check_room(kind, op);
+    }
+    Check::Clear
+}
+
+pub fn check_invoke(kind: Kind, op: Op) -> Check
+    ensures { λ r. ⌜ r ≡ invokeCheck kind op ⌝ }
+{
+    let shape = check_shape(kind);
+    let family = check_family(kind, op_family(op));
+    let room = check_room(kind, op);
+    in_order(shape, in_order(family, room))
+}
+
 pub fn check_step(kind: Kind, op: Op, ret: Ret) -> Check
     ensures { λ r. ⌜ r ≡ stepCheck kind op ret ⌝ }
 {
-    if FULL < depth_of(kind) {
-        let refusal = Refusal::OutOfShape;
-        return Check::Refused(refusal);
-    }
-    let family = family_of(kind);
-    if ret_family(ret) == family {
-        if is_pushed(ret) {
-            return check_invoke(kind, op);
-        }
-        if op_family(op) == family {
-            return Check::Clear;
-        }
-    }
-    let refusal = Refusal::OtherFamily;
-    Check::Refused(refusal)
+    let shape = check_shape(kind);
+    let family = check_family(kind, op_family(op));
+    let returned = check_family(kind, ret_family(ret));
+    let room = check_pushed(kind, op, ret);
+    in_order(shape, in_order(family, in_order(returned, room)))
 }

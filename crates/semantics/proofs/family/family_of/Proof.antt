@@ -1,5 +1,5 @@
 use borrow.Author.Needs.{needs}
-use Rattle.semantics.specs.Families.{familyOf}
+use Rattle.semantics.specs.Family.{familyOf}
 use Rattle.semantics.proofs.family.family_of.Statement.{statement}
 use Rattle.semantics.proofs.family.family_of.Tie as tie
 

@@ -1,5 +1,5 @@
 use borrow.Author.Needs.{needs}
-use Rattle.semantics.specs.Families.{opFamily}
+use Rattle.semantics.specs.Family.{opFamily}
 use Rattle.semantics.proofs.family.op_family.Statement.{statement}
 use Rattle.semantics.proofs.family.op_family.Tie as tie
 

@@ -1,5 +1,5 @@
 use borrow.Author.Needs.{needs}
-use Rattle.semantics.specs.Families.{retFamily}
+use Rattle.semantics.specs.Family.{retFamily}
 use Rattle.semantics.proofs.family.ret_family.Statement.{statement}
 use Rattle.semantics.proofs.family.ret_family.Tie as tie
 

@@ -1,5 +1,6 @@
 use borrow.Author.Needs.{needs}
-use Rattle.semantics.specs.Placing.{rightOf, answerOf, sameRet}
+use Rattle.semantics.specs.Families.{sameRet}
+use Rattle.semantics.specs.Placing.{rightOf, answerOf}
 use Rattle.semantics.proofs.Laws.{back}
 use Rattle.semantics.proofs.placing.right.Statement.{statement}
 use Rattle.semantics.proofs.placing.right.Tie as tie

@@ -1,60 +1,50 @@
-use mathlib.Core.Path.{sym, _∙_}
 use borrow.Author.Needs.{needs}
-use borrow.Author.Tests.{eq-eqb, le-ltb, lt-ltb, ne-eqb}
 use Rattle.semantics.specs.Refusals.{stepCheck}
 use Rattle.semantics.proofs.refusal.check_step.Statement.{statement}
 use Rattle.semantics.proofs.refusal.check_step.Tie as tie
 
-depth-of-requires : tie.Need-depth-of-requires
-depth-of-requires c κs = search needs
-
-returns : tie.Need-returns
-unfolding stepCheck
-returns c = simp (lt-ltb _ _ (c .if1 .taken), ← c .before .depth-of .ensures)
-
-family-of-requires : tie.Need-family-of-requires
-family-of-requires c κs = search needs
-
-ret-family-requires : tie.Need-ret-family-requires
-ret-family-requires c κs = search needs
-
-is-pushed-requires : tie.Need-is-pushed-requires
-is-pushed-requires c κs = search needs
-
-check-invoke-requires : tie.Need-check-invoke-requires
-check-invoke-requires c κs = search needs
-
-returns-2 : tie.Need-returns-2
-unfolding stepCheck
-returns-2 c = simp (eq-eqb _ _ (c .before .before .before .if2 .taken), le-ltb _ _ (c .before .before .before .before .before .before .if1 .left), sym (c .before .before .is-pushed .ensures) ∙ c .before .if3 .taken, ← c .check-invoke .ensures, ← c .before .before .before .before .ret-family .ensures, ← c .before .before .before .before .before .family-of .ensures, ← c .before .before .before .before .before .before .before .depth-of .ensures)
+check-shape-requires : tie.Need-check-shape-requires
+check-shape-requires c κs = search needs
 
 op-family-requires : tie.Need-op-family-requires
 op-family-requires c κs = search needs
 
-returns-3 : tie.Need-returns-3
-unfolding stepCheck
-returns-3 c = simp (eq-eqb _ _ (c .if4 .taken), eq-eqb _ _ (c .before .before .before .before .if2 .taken), le-ltb _ _ (c .before .before .before .before .before .before .before .if1 .left), sym (c .before .before .before .is-pushed .ensures) ∙ c .before .before .if3 .left, ← c .before .op-family .ensures, ← c .before .before .before .before .before .ret-family .ensures, ← c .before .before .before .before .before .before .family-of .ensures, ← c .before .before .before .before .before .before .before .before .depth-of .ensures)
+check-family-requires : tie.Need-check-family-requires
+check-family-requires c κs = search needs
 
-returns-4 : tie.Need-returns-4
-unfolding stepCheck
-returns-4 c = simp (ne-eqb _ _ (c .if4 .left), eq-eqb _ _ (c .before .before .before .before .if2 .taken), le-ltb _ _ (c .before .before .before .before .before .before .before .if1 .left), sym (c .before .before .before .is-pushed .ensures) ∙ c .before .before .if3 .left, ← c .before .op-family .ensures, ← c .before .before .before .before .before .ret-family .ensures, ← c .before .before .before .before .before .before .family-of .ensures, ← c .before .before .before .before .before .before .before .before .depth-of .ensures)
+ret-family-requires : tie.Need-ret-family-requires
+ret-family-requires c κs = search needs
 
-returns-5 : tie.Need-returns-5
+check-family-requires-2 : tie.Need-check-family-requires-2
+check-family-requires-2 c κs = search needs
+
+check-pushed-requires : tie.Need-check-pushed-requires
+check-pushed-requires c κs = search needs
+
+in-order-requires : tie.Need-in-order-requires
+in-order-requires c κs = search needs
+
+in-order-requires-2 : tie.Need-in-order-requires-2
+in-order-requires-2 c κs = search needs
+
+in-order-requires-3 : tie.Need-in-order-requires-3
+in-order-requires-3 c κs = search needs
+
+returns : tie.Need-returns
 unfolding stepCheck
-returns-5 c = simp (ne-eqb _ _ (c .if2 .left), le-ltb _ _ (c .before .before .before .if1 .left), ← c .before .ret-family .ensures, ← c .before .before .family-of .ensures, ← c .before .before .before .before .depth-of .ensures)
+returns c = simp (c .in-order3 .ensures, c .before .in-order2 .ensures, c .before .before .in-order .ensures, c .before .before .before .check-pushed .ensures, c .before .before .before .before .check-family2 .ensures, c .before .before .before .before .before .ret-family .ensures, c .before .before .before .before .before .before .check-family .ensures, c .before .before .before .before .before .before .before .op-family .ensures, c .before .before .before .before .before .before .before .before .check-shape .ensures)
 
 pub check-step-spec : {M : Type 1} → statement M
 check-step-spec =
     tie.close
     (tie.spec
-    depth-of-requires
-    returns
-    family-of-requires
-    ret-family-requires
-    is-pushed-requires
-    check-invoke-requires
-    returns-2
+    check-shape-requires
     op-family-requires
-    returns-3
-    returns-4
-    returns-5)
+    check-family-requires
+    ret-family-requires
+    check-family-requires-2
+    check-pushed-requires
+    in-order-requires
+    in-order-requires-2
+    in-order-requires-3
+    returns)
