@@ -5,7 +5,7 @@ use mathlib.Core.List.{List}
 use lib.ListN.{replicate}
 use lib.IntN.{ℤ, pos}
 use Rattle.semantics.specs.Value.{pick}
-use Rattle.semantics.specs.Stack.{room}
+use Rattle.semantics.specs.Sizes.{room}
 use Rattle.semantics.specs.Placing.{heldOf, kindOf, answerOf, rightOf, heldAfter, leavesOf}
 use Rattle.semantics.specs.Refusals.{shapeCheck, invokeCheck, stepCheck}
 use Rattle.semantics.specs.declared.value.Maybe.{Maybe}

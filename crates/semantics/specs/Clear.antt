@@ -7,7 +7,7 @@ use lib.Dec.{ltb, eqb}
 use borrow.Author.Tests.{le-ltb, ltb-false, eq-eqb, eqb-true, eqb-false}
 use native.Mathlib.Omega.{arith}
 use Rattle.semantics.specs.Value.{pick}
-use Rattle.semantics.specs.Stack.{room}
+use Rattle.semantics.specs.Sizes.{room}
 use Rattle.semantics.specs.Family.{familyOf, opFamily, retFamily}
 use Rattle.semantics.specs.Refusals.{depthOf, isPush, inOrder, shapeCheck, familyCheck, roomCheck, pushedCheck, invokeCheck, stepCheck}
 use Rattle.semantics.specs.declared.Kind.{Kind}

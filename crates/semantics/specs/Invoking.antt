@@ -8,7 +8,8 @@ use lib.Dec.{ltb, leb, eqb}
 use borrow.Author.Tests.{ltb-true}
 use native.Mathlib.Omega.{arith}
 use Rattle.semantics.specs.Value.{pick}
-use Rattle.semantics.specs.Stack.{room, frees, depthAfter}
+use Rattle.semantics.specs.Sizes.{room}
+use Rattle.semantics.specs.Stack.{frees, depthAfter}
 use Rattle.semantics.specs.WriteOnce.{onceAfter}
 use Rattle.semantics.specs.Families.{State, answers, after}
 use Rattle.semantics.specs.Placing.{onceOf, heldOnce, heldOf, kindOf, heldAfter}

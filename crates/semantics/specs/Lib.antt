@@ -1,3 +1,4 @@
+pub mod Sizes
 pub mod Value
 pub mod Register
 pub mod WriteOnce

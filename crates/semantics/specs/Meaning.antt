@@ -5,7 +5,8 @@ use mathlib.Core.List.{List}
 use lib.ListN.{length}
 use lib.IntN.{ℤ}
 use Rattle.semantics.specs.WriteOnce.{onceAfter}
-use Rattle.semantics.specs.Stack.{room, heldValues}
+use Rattle.semantics.specs.Sizes.{room}
+use Rattle.semantics.specs.Stack.{heldValues}
 use Rattle.semantics.specs.Families.{State, register, once, stack, answers, after}
 use Rattle.semantics.specs.Placing.{onceOf, heldOnce, heldOf, kindOf, answerOf, heldAfter, leavesOf}
 use Rattle.semantics.specs.Family.{familyOf, opFamily}

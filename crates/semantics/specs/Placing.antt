@@ -8,7 +8,8 @@ use lib.Dec.{ltb, eqb}
 use Rattle.semantics.specs.Value.{pick}
 use Rattle.semantics.specs.Register.{registerAnswer, registerAfter}
 use Rattle.semantics.specs.WriteOnce.{onceAnswer, onceAfter}
-use Rattle.semantics.specs.Stack.{room, itemAt, storageAnswer, depthAfter, itemsAfter, frees}
+use Rattle.semantics.specs.Sizes.{room}
+use Rattle.semantics.specs.Stack.{itemAt, storageAnswer, depthAfter, itemsAfter, frees}
 use Rattle.semantics.specs.Families.{sameRet}
 use Rattle.semantics.specs.declared.value.Maybe.{Maybe}
 use Rattle.semantics.specs.declared.value.Maybe.the-variants.{Nothing, Value}

@@ -3,7 +3,7 @@ use Prim.Native.Nat.{ℕ}
 use mathlib.Core.Bool.{Bool, true, false}
 use lib.Dec.{ltb, eqb}
 use Rattle.semantics.specs.Value.{pick}
-use Rattle.semantics.specs.Stack.{room}
+use Rattle.semantics.specs.Sizes.{room}
 use Rattle.semantics.specs.Family.{familyOf, opFamily, retFamily}
 use Rattle.semantics.specs.declared.Kind.{Kind}
 use Rattle.semantics.specs.declared.Kind.the-variants.{Register, WORegister, Vec}

@@ -6,6 +6,7 @@ use mathlib.Core.List.{List, [], _∷_}
 use lib.ListN.{length, getD, set}
 use lib.IntN.{ℤ, pos}
 use lib.Dec.{ltb, leb, eqb}
+use Rattle.semantics.specs.Sizes.{room}
 use Rattle.semantics.specs.Value.{pick, sameMaybe}
 use Rattle.semantics.specs.declared.value.Maybe.{Maybe}
 use Rattle.semantics.specs.declared.value.Maybe.the-variants.{Nothing, Value}
@@ -13,10 +14,6 @@ use Rattle.semantics.specs.declared.vec.VecOp.{VecOp}
 use Rattle.semantics.specs.declared.vec.VecOp.the-variants.{Push, Pop, Len}
 use Rattle.semantics.specs.declared.vec.VecRet.{VecRet}
 use Rattle.semantics.specs.declared.vec.VecRet.the-variants.{PushOk, PopOk, LenOk}
-
--- A stack has room for 96 values.
-abbrev pub room : ℕ
-room = 96
 
 -- the values, the top first
 

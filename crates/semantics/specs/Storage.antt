@@ -12,7 +12,8 @@ use borrow.Author.Tests.{lt-ltb, le-leb, ne-eqb, ltb-false}
 use native.Mathlib.Numerals.{add-one}
 use native.Mathlib.Omega.{arith}
 use Rattle.semantics.specs.Value.{pick}
-use Rattle.semantics.specs.Stack.{room, first, stackAnswer, stackAfter, heldValues, itemAt, topOf, storageAnswer, frees, depthAfter, itemsAfter}
+use Rattle.semantics.specs.Sizes.{room}
+use Rattle.semantics.specs.Stack.{first, stackAnswer, stackAfter, heldValues, itemAt, topOf, storageAnswer, frees, depthAfter, itemsAfter}
 use Rattle.semantics.specs.declared.vec.VecOp.{VecOp}
 use Rattle.semantics.specs.declared.vec.VecOp.the-variants.{Push, Pop, Len}
 use Rattle.semantics.specs.declared.vec.VecRet.the-variants.{PopOk, LenOk}

@@ -10,7 +10,8 @@ use lib.Dec.{ltb, leb, eqb}
 use borrow.Author.Tests.{lt-ltb, leb-true, eqb-false}
 use native.Mathlib.Omega.{arith}
 use Rattle.semantics.specs.Value.{pick}
-use Rattle.semantics.specs.Stack.{room, itemAt, frees, itemsAfter}
+use Rattle.semantics.specs.Sizes.{room}
+use Rattle.semantics.specs.Stack.{itemAt, frees, itemsAfter}
 use Rattle.semantics.specs.Placing.{leavesOf, changes, actedOf, backOf}
 use Rattle.semantics.specs.declared.Op.{Op}
 use Rattle.semantics.specs.declared.Op.the-variants.{Register as ORegister, WORegister as OWORegister, Vec as OVec}

@@ -210,10 +210,10 @@ pub fn is_valid_step(object: Object, op: Op, ret: Ret) -> Stepped
             let items = object.items;
             let held = placing::held_of(kind);
             if placing::right(&items, held, op, ret) {
-                let after = left_by(object, op);
+                let moved = left_by(object, op);
                 return Stepped {
                     said: Said::Yes,
-                    object: after,
+                    object: moved,
                 };
             }
             if is_pop(op) {

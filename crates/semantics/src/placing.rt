@@ -36,7 +36,7 @@ pub enum Outcome {
     Returned(Ret),
 }
 
-pub fn once_of(held: Held) -> Maybe
+pub(crate) fn once_of(held: Held) -> Maybe
     ensures { λ r. ⌜ r ≡ onceOf held ⌝ }
 {
     let height = held.height;
@@ -47,7 +47,7 @@ pub fn once_of(held: Held) -> Maybe
     Maybe::Value(value)
 }
 
-pub fn held_once(stored: Maybe) -> Held
+pub(crate) fn held_once(stored: Maybe) -> Held
     ensures { λ r. ⌜ r ≡ heldOnce stored ⌝ }
 {
     match stored {
@@ -80,7 +80,7 @@ pub fn held_of(kind: Kind) -> Held
 }
 
 // What two words say of an object of the family of `kind`.
-pub fn kind_of(kind: Kind, held: Held) -> Kind
+pub(crate) fn kind_of(kind: Kind, held: Held) -> Kind
     ensures { λ r. ⌜ r ≡ kindOf kind held ⌝ }
 {
     match kind {
@@ -94,7 +94,7 @@ pub fn kind_of(kind: Kind, held: Held) -> Kind
 }
 
 // What the object answers.
-pub fn answer(items: &[i32; ROOM], held: Held, op: Op) -> Ret
+pub(crate) fn answer(items: &[i32; ROOM], held: Held, op: Op) -> Ret
     ensures { λ r. ⌜ r ≡ answerOf (now (items .entry)) held op ⌝ }
 {
     match op {
@@ -115,7 +115,7 @@ pub fn answer(items: &[i32; ROOM], held: Held, op: Op) -> Ret
 }
 
 // Whether `ret` is the return that the object gives.
-pub fn right(items: &[i32; ROOM], held: Held, op: Op, ret: Ret) -> bool
+pub(crate) fn right(items: &[i32; ROOM], held: Held, op: Op, ret: Ret) -> bool
     ensures { λ r. ⌜ r ≡ rightOf (now (items .entry)) held op ret ⌝ }
 {
     match op {

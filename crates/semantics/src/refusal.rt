@@ -44,7 +44,7 @@ pub fn depth_of(kind: Kind) -> u32
     }
 }
 
-pub fn is_push(op: Op) -> bool
+pub(crate) fn is_push(op: Op) -> bool
     ensures { λ r. ⌜ r ≡ isPush op ⌝ }
 {
     match op {
@@ -58,7 +58,7 @@ pub fn is_push(op: Op) -> bool
     }
 }
 
-pub fn is_pushed(ret: Ret) -> bool
+pub(crate) fn is_pushed(ret: Ret) -> bool
     ensures { λ r. ⌜ r ≡ isPushed ret ⌝ }
 {
     match ret {
@@ -73,7 +73,7 @@ pub fn is_pushed(ret: Ret) -> bool
 }
 
 // The first refusal of two checks.
-pub fn in_order(first: Check, second: Check) -> Check
+pub(crate) fn in_order(first: Check, second: Check) -> Check
     ensures { λ r. ⌜ r ≡ inOrder first second ⌝ }
 {
     match first {
@@ -82,7 +82,7 @@ pub fn in_order(first: Check, second: Check) -> Check
     }
 }
 
-pub fn check_shape(kind: Kind) -> Check
+pub(crate) fn check_shape(kind: Kind) -> Check
     ensures { λ r. ⌜ r ≡ shapeCheck kind ⌝ }
 {
     if FULL < depth_of(kind) {
@@ -92,7 +92,7 @@ pub fn check_shape(kind: Kind) -> Check
     Check::Clear
 }
 
-pub fn check_family(kind: Kind, family: u8) -> Check
+pub(crate) fn check_family(kind: Kind, family: u8) -> Check
     ensures { λ r. ⌜ r ≡ familyCheck kind family ⌝ }
 {
     if family == family_of(kind) {
@@ -102,7 +102,7 @@ pub fn check_family(kind: Kind, family: u8) -> Check
     Check::Refused(refusal)
 }
 
-pub fn check_room(kind: Kind, op: Op) -> Check
+pub(crate) fn check_room(kind: Kind, op: Op) -> Check
     ensures { λ r. ⌜ r ≡ roomCheck kind op ⌝ }
 {
     if is_push(op) {
@@ -115,7 +115,7 @@ pub fn check_room(kind: Kind, op: Op) -> Check
 }
 
 // A step wants room where its return says that it was pushed.
-pub fn check_pushed(kind: Kind, op: Op, ret: Ret) -> Check
+pub(crate) fn check_pushed(kind: Kind, op: Op, ret: Ret) -> Check
     ensures { λ r. ⌜ r ≡ pushedCheck kind op ret ⌝ }
 {
     if is_pushed(ret) {
@@ -124,7 +124,7 @@ pub fn check_pushed(kind: Kind, op: Op, ret: Ret) -> Check
     Check::Clear
 }
 
-pub fn check_invoke(kind: Kind, op: Op) -> Check
+pub(crate) fn check_invoke(kind: Kind, op: Op) -> Check
     ensures { λ r. ⌜ r ≡ invokeCheck kind op ⌝ }
 {
     let shape = check_shape(kind);
@@ -133,7 +133,7 @@ pub fn check_invoke(kind: Kind, op: Op) -> Check
     in_order(shape, in_order(family, room))
 }
 
-pub fn check_step(kind: Kind, op: Op, ret: Ret) -> Check
+pub(crate) fn check_step(kind: Kind, op: Op, ret: Ret) -> Check
     ensures { λ r. ⌜ r ≡ stepCheck kind op ret ⌝ }
 {
     let shape = check_shape(kind);

@@ -13,7 +13,7 @@ pub enum RegisterRet {
     ReadOk(i32),
 }
 
-pub fn answer(value: i32, op: RegisterOp) -> RegisterRet
+pub(crate) fn answer(value: i32, op: RegisterOp) -> RegisterRet
     ensures { λ r. ⌜ r ≡ registerAnswer value op ⌝ }
 {
     match op {
@@ -22,7 +22,7 @@ pub fn answer(value: i32, op: RegisterOp) -> RegisterRet
     }
 }
 
-pub fn after(value: i32, op: RegisterOp) -> i32
+pub(crate) fn after(value: i32, op: RegisterOp) -> i32
     ensures { λ r. ⌜ r ≡ registerAfter value op ⌝ }
 {
     match op {
@@ -32,7 +32,7 @@ pub fn after(value: i32, op: RegisterOp) -> i32
 }
 
 // Whether `ret` is the return that the operation has here.
-pub fn right(value: i32, op: RegisterOp, ret: RegisterRet) -> bool
+pub(crate) fn right(value: i32, op: RegisterOp, ret: RegisterRet) -> bool
     ensures { λ r. ⌜ r ≡ sameRegisterRet (registerAnswer value op) ret ⌝ }
 {
     match op {

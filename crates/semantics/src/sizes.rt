@@ -1,4 +1,4 @@
-// The sizes of document 01 that the objects have.
+// The sizes of document 01.
 
 // A stack has room for this many values.
 pub const ROOM: usize = 96;

@@ -7,13 +7,13 @@ pub enum Maybe {
     Value(i32),
 }
 
-pub fn same_value(a: i32, b: i32) -> bool
+pub(crate) fn same_value(a: i32, b: i32) -> bool
     ensures { λ r. ⌜ r ≡ eqZ a b ⌝ }
 {
     a == b
 }
 
-pub fn same_maybe(a: Maybe, b: Maybe) -> bool
+pub(crate) fn same_maybe(a: Maybe, b: Maybe) -> bool
     ensures { λ r. ⌜ r ≡ sameMaybe a b ⌝ }
 {
     match a {

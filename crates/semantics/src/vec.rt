@@ -24,7 +24,7 @@ pub enum VecRet {
 }
 
 // What is on top.
-pub fn top_of(items: &[i32; ROOM], depth: u32) -> Maybe
+pub(crate) fn top_of(items: &[i32; ROOM], depth: u32) -> Maybe
     ensures { λ r. ⌜ r ≡ topOf (now (items .entry)) depth ⌝ }
 {
     if depth == 0 {
@@ -39,7 +39,7 @@ pub fn top_of(items: &[i32; ROOM], depth: u32) -> Maybe
     }
 }
 
-pub fn answer(items: &[i32; ROOM], depth: u32, op: VecOp) -> VecRet
+pub(crate) fn answer(items: &[i32; ROOM], depth: u32, op: VecOp) -> VecRet
     ensures { λ r. ⌜ r ≡ storageAnswer (now (items .entry)) depth op ⌝ }
 {
     match op {
@@ -53,7 +53,7 @@ pub fn answer(items: &[i32; ROOM], depth: u32, op: VecOp) -> VecRet
 }
 
 // Whether `ret` is the return that the operation has here.
-pub fn right(items: &[i32; ROOM], depth: u32, op: VecOp, ret: VecRet) -> bool
+pub(crate) fn right(items: &[i32; ROOM], depth: u32, op: VecOp, ret: VecRet) -> bool
     ensures { λ r. ⌜ r ≡ sameVecRet (storageAnswer (now (items .entry)) depth op) ret ⌝ }
 {
     match op {
@@ -79,7 +79,7 @@ pub fn right(items: &[i32; ROOM], depth: u32, op: VecOp, ret: VecRet) -> bool
 }
 
 // The operation on the storage, and how to undo it. Without room, or without a value to pop, nothing changes.
-pub fn act(items: &mut [i32; ROOM], held: Held, op: VecOp) -> Acted
+pub(crate) fn act(items: &mut [i32; ROOM], held: Held, op: VecOp) -> Acted
     ensures { λ r. ⌜ r ≡ actedOf (now (items .entry)) held (Op.Vec op) ⌝ }
     ensures { λ r. ⌜ now (items .exit) ≡ itemsAfter (now (items .entry)) (held .height) op ⌝ }
 {
@@ -91,10 +91,8 @@ pub fn act(items: &mut [i32; ROOM], held: Held, op: VecOp) -> Acted
                 let at = depth as usize;
                 let was = items[at];
                 items[at] = v;
-                let after = Held {
-                    value,
-                    height: depth + 1,
-                };
+                let height = depth + 1;
+                let after = Held { value, height };
                 let undo = Undo { cell: depth, was };
                 return Acted { held: after, undo };
             }
@@ -110,7 +108,8 @@ pub fn act(items: &mut [i32; ROOM], held: Held, op: VecOp) -> Acted
                 let top = depth - 1;
                 let at = top as usize;
                 let was = items[at];
-                items[at] = 0;
+                let freed = 0;
+                items[at] = freed;
                 let after = Held { value, height: top };
                 let undo = Undo { cell: top, was };
                 return Acted { held: after, undo };

@@ -18,7 +18,7 @@ pub enum WORegisterRet {
 }
 
 // Whether a Write of `v` succeeds.
-pub fn writes_ok(stored: Maybe, v: i32) -> bool
+fn writes_ok(stored: Maybe, v: i32) -> bool
     ensures { λ r. ⌜ r ≡ writes stored v ⌝ }
 {
     match stored {
@@ -27,7 +27,7 @@ pub fn writes_ok(stored: Maybe, v: i32) -> bool
     }
 }
 
-pub fn answer(stored: Maybe, op: WORegisterOp) -> WORegisterRet
+pub(crate) fn answer(stored: Maybe, op: WORegisterOp) -> WORegisterRet
     ensures { λ r. ⌜ r ≡ onceAnswer stored op ⌝ }
 {
     match op {
@@ -41,7 +41,7 @@ pub fn answer(stored: Maybe, op: WORegisterOp) -> WORegisterRet
     }
 }
 
-pub fn after(stored: Maybe, op: WORegisterOp) -> Maybe
+pub(crate) fn after(stored: Maybe, op: WORegisterOp) -> Maybe
     ensures { λ r. ⌜ r ≡ onceAfter stored op ⌝ }
 {
     match op {
@@ -70,7 +70,7 @@ fn wrote(ok: bool, ret: WORegisterRet) -> bool
 }
 
 // Whether `ret` is the return that the operation has here.
-pub fn right(stored: Maybe, op: WORegisterOp, ret: WORegisterRet) -> bool
+pub(crate) fn right(stored: Maybe, op: WORegisterOp, ret: WORegisterRet) -> bool
     ensures { λ r. ⌜ r ≡ sameOnceRet (onceAnswer stored op) ret ⌝ }
 {
     match op {

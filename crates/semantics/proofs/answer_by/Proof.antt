@@ -1,6 +1,5 @@
 use borrow.Author.Needs.{needs}
 use Rattle.semantics.specs.Calls.{answerBy}
-use Rattle.semantics.proofs.Laws.{back}
 use Rattle.semantics.proofs.answer_by.Statement.{statement}
 use Rattle.semantics.proofs.answer_by.Tie as tie
 
@@ -12,7 +11,7 @@ answer-requires c κs = search needs
 
 returns : tie.Need-returns
 unfolding answerBy
-returns c = simp (← c .answer .ensures, ← c .before .before .held-of .ensures, back, c .before .before .before .items .given)
+returns c = simp (← c .answer .ensures, ← c .before .before .held-of .ensures)
 
 pub answer-by-spec : {M : Type 1} → statement M
 answer-by-spec = tie.close (tie.spec held-of-requires answer-requires returns)

@@ -1,6 +1,5 @@
 use borrow.Author.Needs.{needs}
 use Rattle.semantics.specs.Calls.{isPop}
-use Rattle.semantics.proofs.Laws.{back}
 use Rattle.semantics.proofs.is_pop.Statement.{statement}
 use Rattle.semantics.proofs.is_pop.Tie as tie
 
@@ -32,15 +31,15 @@ returns-2 c = simp (c .enum-told2 .given .1)
 
 returns-3 : tie.Need-returns-3
 unfolding isPop
-returns-3 c = simp (c .enum-told3 .given .1, c .before .before .before .op .given .1, back, c .before .before .known-told .given .0 .1)
+returns-3 c = simp (c .enum-told3 .given .1, c .before .before .before .op .given .1)
 
 returns-4 : tie.Need-returns-4
 unfolding isPop
-returns-4 c = simp (c .enum-told4 .given .1, c .before .before .before .op .given .1, back, c .before .before .known-told .given .0 .1)
+returns-4 c = simp (c .enum-told4 .given .1, c .before .before .before .op .given .1)
 
 returns-5 : tie.Need-returns-5
 unfolding isPop
-returns-5 c = simp (c .enum-told5 .given .1, c .before .before .before .op .given .1, back, c .before .before .known-told .given .0 .1)
+returns-5 c = simp (c .enum-told5 .given .1, c .before .before .before .op .given .1)
 
 pub is-pop-spec : {M : Type 1} → statement M
 is-pop-spec =

@@ -1,6 +1,5 @@
 use borrow.Author.Needs.{needs}
 use Rattle.semantics.specs.Calls.{isPopped}
-use Rattle.semantics.proofs.Laws.{back}
 use Rattle.semantics.proofs.is_popped.Statement.{statement}
 use Rattle.semantics.proofs.is_popped.Tie as tie
 
@@ -32,15 +31,15 @@ returns-2 c = simp (c .enum-told2 .given .1)
 
 returns-3 : tie.Need-returns-3
 unfolding isPopped
-returns-3 c = simp (c .enum-told3 .given .1, c .before .before .before .ret .given .1, back, c .before .before .known-told .given .0 .1)
+returns-3 c = simp (c .enum-told3 .given .1, c .before .before .before .ret .given .1)
 
 returns-4 : tie.Need-returns-4
 unfolding isPopped
-returns-4 c = simp (c .enum-told4 .given .1, c .before .before .before .ret .given .1, back, c .before .before .known-told .given .0 .1)
+returns-4 c = simp (c .enum-told4 .given .1, c .before .before .before .ret .given .1)
 
 returns-5 : tie.Need-returns-5
 unfolding isPopped
-returns-5 c = simp (c .enum-told5 .given .1, c .before .before .before .ret .given .1, back, c .before .before .known-told .given .0 .1)
+returns-5 c = simp (c .enum-told5 .given .1, c .before .before .before .ret .given .1)
 
 pub is-popped-spec : {M : Type 1} → statement M
 is-popped-spec =

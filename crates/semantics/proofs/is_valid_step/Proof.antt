@@ -1,7 +1,6 @@
 use mathlib.Core.Path.{sym, _∙_}
 use borrow.Author.Needs.{needs}
 use Rattle.semantics.specs.Calls.{stepOf}
-use Rattle.semantics.proofs.Laws.{back}
 use Rattle.semantics.proofs.is_valid_step.Statement.{statement}
 use Rattle.semantics.proofs.is_valid_step.Tie as tie
 
@@ -25,7 +24,7 @@ left-by-requires c κs = search needs
 
 returns : tie.Need-returns
 unfolding stepOf
-returns c = simp (sym (c .before .before .right .ensures) ∙ c .before .if1 .taken, ← c .left-by .ensures, ← c .before .before .before .before .held-of .ensures, ← c .before .before .before .before .before .before .before .before .check-step .ensures, c .before .before .before .before .before .before .enum-told .given .1, back, c .before .before .before .before .before .items .given)
+returns c = simp (sym (c .before .before .right .ensures) ∙ c .before .if1 .taken, ← c .left-by .ensures, ← c .before .before .before .before .held-of .ensures, ← c .before .before .before .before .before .before .before .before .check-step .ensures, c .before .before .before .before .before .before .enum-told .given .1)
 
 is-pop-requires : tie.Need-is-pop-requires
 is-pop-requires c κs = search needs
@@ -38,19 +37,19 @@ left-by-requires-2 c κs = search needs
 
 returns-2 : tie.Need-returns-2
 unfolding stepOf
-returns-2 c = simp (sym (c .before .before .is-popped .ensures) ∙ c .before .if3 .taken, sym (c .before .before .before .before .is-pop .ensures) ∙ c .before .before .before .if2 .taken, sym (c .before .before .before .before .before .before .right .ensures) ∙ c .before .before .before .before .before .if1 .left, ← c .left-by2 .ensures, ← c .before .before .before .before .before .before .before .before .held-of .ensures, ← c .before .before .before .before .before .before .before .before .before .before .before .before .check-step .ensures, c .before .before .before .before .before .before .before .before .before .before .enum-told .given .1, back, c .before .before .before .before .before .before .before .before .before .items .given)
+returns-2 c = simp (sym (c .before .before .is-popped .ensures) ∙ c .before .if3 .taken, sym (c .before .before .before .before .is-pop .ensures) ∙ c .before .before .before .if2 .taken, sym (c .before .before .before .before .before .before .right .ensures) ∙ c .before .before .before .before .before .if1 .left, ← c .left-by2 .ensures, ← c .before .before .before .before .before .before .before .before .held-of .ensures, ← c .before .before .before .before .before .before .before .before .before .before .before .before .check-step .ensures, c .before .before .before .before .before .before .before .before .before .before .enum-told .given .1, c .before .before .before .before .before .before .before .before .before .items .given)
 
 returns-3 : tie.Need-returns-3
 unfolding stepOf
-returns-3 c = simp (← c .before .before .before .check-step .ensures, c .before .refusal .given .1, back, c .known-told .given .0 .1)
+returns-3 c = simp (← c .before .before .before .check-step .ensures, c .before .refusal .given .1)
 
 returns-4 : tie.Need-returns-4
 unfolding stepOf
-returns-4 c = simp (sym (c .before .is-popped .ensures) ∙ c .if3 .left, sym (c .before .before .before .is-pop .ensures) ∙ c .before .before .if2 .taken, sym (c .before .before .before .before .before .right .ensures) ∙ c .before .before .before .before .if1 .left, ← c .before .before .before .before .before .before .before .held-of .ensures, ← c .before .before .before .before .before .before .before .before .before .before .before .check-step .ensures, c .before .before .before .before .before .before .before .before .before .enum-told .given .1, back, c .before .before .before .before .before .before .before .before .items .given)
+returns-4 c = simp (sym (c .before .is-popped .ensures) ∙ c .if3 .left, sym (c .before .before .before .is-pop .ensures) ∙ c .before .before .if2 .taken, sym (c .before .before .before .before .before .right .ensures) ∙ c .before .before .before .before .if1 .left, ← c .before .before .before .before .before .before .before .held-of .ensures, ← c .before .before .before .before .before .before .before .before .before .before .before .check-step .ensures, c .before .before .before .before .before .before .before .before .before .enum-told .given .1, c .before .before .before .before .before .before .before .before .items .given)
 
 returns-5 : tie.Need-returns-5
 unfolding stepOf
-returns-5 c = simp (sym (c .before .is-pop .ensures) ∙ c .if2 .left, sym (c .before .before .before .right .ensures) ∙ c .before .before .if1 .left, ← c .before .before .before .before .before .held-of .ensures, ← c .before .before .before .before .before .before .before .before .before .check-step .ensures, c .before .before .before .before .before .before .before .enum-told .given .1, back, c .before .before .before .before .before .before .items .given)
+returns-5 c = simp (sym (c .before .is-pop .ensures) ∙ c .if2 .left, sym (c .before .before .before .right .ensures) ∙ c .before .before .if1 .left, ← c .before .before .before .before .before .held-of .ensures, ← c .before .before .before .before .before .before .before .before .before .check-step .ensures, c .before .before .before .before .before .before .before .enum-told .given .1)
 
 pub is-valid-step-spec : {M : Type 1} → statement M
 is-valid-step-spec =

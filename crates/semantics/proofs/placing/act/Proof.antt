@@ -31,15 +31,15 @@ act-requires c κs = search needs
 
 returns : tie.Need-returns
 unfolding itemAt actedOf leavesOf heldAfter changes
-returns c = (simp (back (c .after .result) (c .after .ok)) (simp (c .after .ensures, c .before .before .before .op .given .1, back, c .before .struct-told .given .0 .1, c .before .before .known-told .given .0 .1)), simp (c .before .before .before .op .given .1))
+returns c = (simp (back (c .after .result) (c .after .ok)) (simp (c .after .ensures, c .before .before .before .op .given .1, back, c .before .struct-told .given .0 .1)), simp (c .before .before .before .op .given .1))
 
 returns-2 : tie.Need-returns-2
 unfolding itemAt actedOf leavesOf heldAfter changes
-returns-2 c = (simp (c .held-once .ensures, c .before .after2 .ensures, c .before .before .once-of .ensures, c .before .before .before .before .op2 .given .1, back, c .before .before .before .known-told2 .given .0 .1), simp (c .held-once .ensures, c .before .after2 .ensures, c .before .before .once-of .ensures, c .before .before .before .before .op2 .given .1, back, c .before .before .before .known-told2 .given .0 .1))
+returns-2 c = (simp (c .held-once .ensures, c .before .after2 .ensures, c .before .before .once-of .ensures, c .before .before .before .before .op2 .given .1), simp (c .before .before .before .before .op2 .given .1))
 
 returns-3 : tie.Need-returns-3
 unfolding leavesOf
-returns-3 c = (simp (c .act .ensures .0, c .before .before .before .op3 .given .1, back, c .before .before .known-told3 .given .0 .1), simp (c .act .ensures .1, c .before .before .before .op3 .given .1, back, c .before .before .known-told3 .given .0 .1))
+returns-3 c = (simp (c .act .ensures .0, c .before .before .before .op3 .given .1), simp (c .act .ensures .1, c .before .before .before .op3 .given .1))
 
 pub act-spec : {M : Type 1} → statement M
 act-spec =

@@ -27,15 +27,15 @@ answer-requires-3 c κs = search needs
 
 returns : tie.Need-returns
 unfolding answerOf
-returns c = simp (c .answer .ensures, c .before .before .before .op .given .1, back, c .before .struct-told .given .0 .1, c .before .before .known-told .given .0 .1)
+returns c = simp (c .answer .ensures, c .before .before .before .op .given .1, back, c .before .struct-told .given .0 .1)
 
 returns-2 : tie.Need-returns-2
 unfolding answerOf
-returns-2 c = simp (c .answer2 .ensures, c .before .once-of .ensures, c .before .before .before .op2 .given .1, back, c .before .before .known-told2 .given .0 .1)
+returns-2 c = simp (c .answer2 .ensures, c .before .once-of .ensures, c .before .before .before .op2 .given .1)
 
 returns-3 : tie.Need-returns-3
 unfolding answerOf
-returns-3 c = simp (c .answer3 .ensures, c .before .before .op3 .given .1, back, c .before .known-told3 .given .0 .1)
+returns-3 c = simp (c .answer3 .ensures, c .before .before .op3 .given .1)
 
 pub answer-spec : {M : Type 1} → statement M
 answer-spec =

@@ -1,6 +1,5 @@
 use borrow.Author.Needs.{needs}
 use Rattle.semantics.specs.Placing.{fitsOf}
-use Rattle.semantics.proofs.Laws.{back}
 use Rattle.semantics.proofs.placing.fits.Statement.{statement}
 use Rattle.semantics.proofs.placing.fits.Tie as tie
 
@@ -15,11 +14,11 @@ right-requires c κs = search needs
 
 returns : tie.Need-returns
 unfolding fitsOf
-returns c = simp (c .enum-told .given .1, back)
+returns c = simp (c .enum-told .given .1)
 
 returns-2 : tie.Need-returns-2
 unfolding fitsOf
-returns-2 c = simp (c .right .ensures, c .before .before .outcome .given .1, back, c .before .known-told .given .0 .1)
+returns-2 c = simp (c .right .ensures, c .before .before .outcome .given .1)
 
 pub fits-spec : {M : Type 1} → statement M
 fits-spec = tie.close (tie.spec enum-told enum-known-outcome right-requires returns returns-2)

@@ -1,6 +1,5 @@
 use borrow.Author.Needs.{needs}
 use Rattle.semantics.specs.Placing.{givenOf}
-use Rattle.semantics.proofs.Laws.{back}
 use Rattle.semantics.proofs.placing.given.Statement.{statement}
 use Rattle.semantics.proofs.placing.given.Tie as tie
 
@@ -15,11 +14,11 @@ enum-known-outcome c = search needs
 
 returns : tie.Need-returns
 unfolding givenOf
-returns c = simp (c .answer .ensures, c .before .enum-told .given .1, back)
+returns c = simp (c .answer .ensures, c .before .enum-told .given .1)
 
 returns-2 : tie.Need-returns-2
 unfolding givenOf
-returns-2 c = simp (c .before .outcome .given .1, back, c .known-told .given .0 .1)
+returns-2 c = simp (c .before .outcome .given .1)
 
 pub given-spec : {M : Type 1} → statement M
 given-spec = tie.close (tie.spec enum-told answer-requires enum-known-outcome returns returns-2)

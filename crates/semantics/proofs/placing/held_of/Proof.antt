@@ -22,11 +22,11 @@ returns c = simp (c .before .kind .given .1, back, c .known-told .given .0 .1)
 
 returns-2 : tie.Need-returns-2
 unfolding heldOf
-returns-2 c = simp (c .held-once .ensures, c .before .before .kind2 .given .1, back, c .before .known-told2 .given .0 .1)
+returns-2 c = simp (c .held-once .ensures, c .before .before .kind2 .given .1)
 
 returns-3 : tie.Need-returns-3
 unfolding heldOf
-returns-3 c = simp (c .before .kind3 .given .1, back, c .known-told3 .given .0 .1)
+returns-3 c = simp (c .before .kind3 .given .1)
 
 pub held-of-spec : {M : Type 1} → statement M
 held-of-spec =

@@ -22,11 +22,11 @@ returns c = simp (c .before .enum-told .given .1, back, c .struct-told .given .0
 
 returns-2 : tie.Need-returns-2
 unfolding kindOf
-returns-2 c = simp (c .once-of .ensures, c .before .enum-told2 .given .1, back)
+returns-2 c = simp (c .once-of .ensures, c .before .enum-told2 .given .1)
 
 returns-3 : tie.Need-returns-3
 unfolding kindOf
-returns-3 c = simp (c .enum-told3 .given .1, back)
+returns-3 c = simp (c .enum-told3 .given .1)
 
 pub kind-of-spec : {M : Type 1} → statement M
 kind-of-spec =

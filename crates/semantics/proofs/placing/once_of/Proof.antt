@@ -6,7 +6,7 @@ use Rattle.semantics.proofs.placing.once_of.Tie as tie
 
 returns : tie.Need-returns
 unfolding onceOf
-returns c = simp (eq-eqb _ _ (c .if1 .taken), back, c .before .struct-told .given .0 .1)
+returns c = simp (eq-eqb _ _ (c .if1 .taken))
 
 returns-2 : tie.Need-returns-2
 unfolding onceOf

@@ -55,39 +55,39 @@ right-requires-3 c κs = search needs
 
 returns : tie.Need-returns
 unfolding rightOf answerOf sameRet
-returns c = simp (c .right .ensures, c .before .before .before .ret .given .1, c .before .before .before .before .before .before .op .given .1, back, c .before .struct-told .given .0 .1, c .before .before .known-told2 .given .0 .1, c .before .before .before .before .before .known-told .given .0 .1)
+returns c = simp (c .right .ensures, c .before .before .before .ret .given .1, c .before .before .before .before .before .before .op .given .1, back, c .before .struct-told .given .0 .1)
 
 returns-2 : tie.Need-returns-2
 unfolding rightOf answerOf sameRet
-returns-2 c = simp (c .enum-told .given .1, c .before .before .before .op .given .1, back, c .before .before .known-told .given .0 .1)
+returns-2 c = simp (c .enum-told .given .1, c .before .before .before .op .given .1)
 
 returns-3 : tie.Need-returns-3
 unfolding rightOf answerOf sameRet
-returns-3 c = simp (c .enum-told2 .given .1, c .before .before .before .op .given .1, back, c .before .before .known-told .given .0 .1)
+returns-3 c = simp (c .enum-told2 .given .1, c .before .before .before .op .given .1)
 
 returns-4 : tie.Need-returns-4
 unfolding rightOf answerOf sameRet
-returns-4 c = simp (c .enum-told3 .given .1, c .before .before .before .op2 .given .1, back, c .before .before .known-told3 .given .0 .1)
+returns-4 c = simp (c .enum-told3 .given .1, c .before .before .before .op2 .given .1)
 
 returns-5 : tie.Need-returns-5
 unfolding rightOf answerOf sameRet
-returns-5 c = simp (c .right2 .ensures, c .before .once-of .ensures, c .before .before .before .ret2 .given .1, c .before .before .before .before .before .before .op2 .given .1, back, c .before .before .known-told4 .given .0 .1, c .before .before .before .before .before .known-told3 .given .0 .1)
+returns-5 c = simp (c .right2 .ensures, c .before .once-of .ensures, c .before .before .before .ret2 .given .1, c .before .before .before .before .before .before .op2 .given .1)
 
 returns-6 : tie.Need-returns-6
 unfolding rightOf answerOf sameRet
-returns-6 c = simp (c .enum-told4 .given .1, c .before .before .before .op2 .given .1, back, c .before .before .known-told3 .given .0 .1)
+returns-6 c = simp (c .enum-told4 .given .1, c .before .before .before .op2 .given .1)
 
 returns-7 : tie.Need-returns-7
 unfolding rightOf answerOf sameRet
-returns-7 c = simp (c .enum-told5 .given .1, c .before .before .before .op3 .given .1, back, c .before .before .known-told5 .given .0 .1)
+returns-7 c = simp (c .enum-told5 .given .1, c .before .before .before .op3 .given .1)
 
 returns-8 : tie.Need-returns-8
 unfolding rightOf answerOf sameRet
-returns-8 c = simp (c .enum-told6 .given .1, c .before .before .before .op3 .given .1, back, c .before .before .known-told5 .given .0 .1)
+returns-8 c = simp (c .enum-told6 .given .1, c .before .before .before .op3 .given .1)
 
 returns-9 : tie.Need-returns-9
 unfolding rightOf answerOf sameRet
-returns-9 c = simp (c .right3 .ensures, c .before .before .ret3 .given .1, c .before .before .before .before .before .op3 .given .1, back, c .before .known-told6 .given .0 .1, c .before .before .before .before .known-told5 .given .0 .1)
+returns-9 c = simp (c .right3 .ensures, c .before .before .ret3 .given .1, c .before .before .before .before .before .op3 .given .1)
 
 pub right-spec : {M : Type 1} → statement M
 right-spec =

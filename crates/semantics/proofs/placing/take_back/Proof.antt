@@ -20,7 +20,7 @@ returns c = simp (lt-ltb _ _ (c .if1 .taken), back, c .before .struct-told .give
 
 returns-2 : tie.Need-returns-2
 unfolding backOf
-returns-2 c = simp (le-ltb _ _ (c .if1 .left), back, c .before .struct-told .given .0 .1)
+returns-2 c = simp (le-ltb _ _ (c .if1 .left))
 
 pub take-back-spec : {M : Type 1} → statement M
 take-back-spec = tie.close (tie.spec cast-at mul-was element-set-from-was returns returns-2)

@@ -1,6 +1,5 @@
 use borrow.Author.Needs.{needs}
 use Rattle.semantics.specs.Refusals.{depthOf}
-use Rattle.semantics.proofs.Laws.{back}
 use Rattle.semantics.proofs.refusal.depth_of.Statement.{statement}
 use Rattle.semantics.proofs.refusal.depth_of.Tie as tie
 
@@ -23,7 +22,7 @@ returns-2 c = simp (c .enum-told2 .given .1)
 
 returns-3 : tie.Need-returns-3
 unfolding depthOf
-returns-3 c = simp (c .before .kind .given .1, back, c .known-told .given .0 .1)
+returns-3 c = simp (c .before .kind .given .1)
 
 pub depth-of-spec : {M : Type 1} → statement M
 depth-of-spec =

@@ -12,7 +12,7 @@ enum-told c = search needs
 
 returns : tie.Need-returns
 unfolding registerAfter
-returns c = simp (c .before .op .given .1, back, c .known-told .given .0 .1, c .before .before .before .fits .value .sfits)
+returns c = simp (c .before .op .given .1, back, c .known-told .given .0 .1)
 
 returns-2 : tie.Need-returns-2
 unfolding registerAfter

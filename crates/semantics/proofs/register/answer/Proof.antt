@@ -12,7 +12,7 @@ enum-told-2 c = search needs
 
 returns : tie.Need-returns
 unfolding registerAnswer
-returns c = simp (c .enum-told .given .1, back, c .before .before .fits .value .sfits)
+returns c = simp (c .enum-told .given .1)
 
 returns-2 : tie.Need-returns-2
 unfolding registerAnswer

@@ -27,15 +27,15 @@ same-value-requires c κs = search needs
 
 returns : tie.Need-returns
 unfolding registerAnswer sameRegisterRet
-returns c = simp (c .enum-told2 .given .1, c .before .before .enum-told .given .1, back, c .before .before .before .before .fits .value .sfits)
+returns c = simp (c .enum-told2 .given .1, c .before .before .enum-told .given .1)
 
 returns-2 : tie.Need-returns-2
 unfolding registerAnswer sameRegisterRet
-returns-2 c = simp (c .enum-told3 .given .1, c .before .before .enum-told .given .1, back, c .before .before .before .before .fits .value .sfits)
+returns-2 c = simp (c .enum-told3 .given .1, c .before .before .enum-told .given .1)
 
 returns-3 : tie.Need-returns-3
 unfolding registerAnswer sameRegisterRet
-returns-3 c = simp (c .enum-told5 .given .1, c .before .before .enum-told4 .given .1, back, c .before .before .before .before .fits .value .sfits)
+returns-3 c = simp (c .enum-told5 .given .1, c .before .before .enum-told4 .given .1)
 
 returns-4 : tie.Need-returns-4
 unfolding registerAnswer sameRegisterRet

@@ -27,15 +27,15 @@ same-value-requires c κs = search needs
 
 returns : tie.Need-returns
 unfolding sameMaybe
-returns c = simp (c .enum-told2 .given .1, c .before .before .enum-told .given .1, back)
+returns c = simp (c .enum-told2 .given .1, c .before .before .enum-told .given .1)
 
 returns-2 : tie.Need-returns-2
 unfolding sameMaybe
-returns-2 c = simp (c .enum-told3 .given .1, c .before .before .enum-told .given .1, back)
+returns-2 c = simp (c .enum-told3 .given .1, c .before .before .enum-told .given .1)
 
 returns-3 : tie.Need-returns-3
 unfolding sameMaybe
-returns-3 c = simp (c .enum-told4 .given .1, c .before .before .before .a .given .1, back, c .before .before .known-told .given .0 .1)
+returns-3 c = simp (c .enum-told4 .given .1, c .before .before .before .a .given .1)
 
 returns-4 : tie.Need-returns-4
 unfolding sameMaybe

@@ -1,6 +1,5 @@
 use borrow.Author.Needs.{needs}
 use Rattle.semantics.specs.Stack.{storageAnswer}
-use Rattle.semantics.proofs.Laws.{back}
 use Rattle.semantics.proofs.vec.answer.Statement.{statement}
 use Rattle.semantics.proofs.vec.answer.Tie as tie
 
@@ -18,15 +17,15 @@ enum-told-3 c = search needs
 
 returns : tie.Need-returns
 unfolding storageAnswer
-returns c = simp (c .enum-told .given .1, back)
+returns c = simp (c .enum-told .given .1)
 
 returns-2 : tie.Need-returns-2
 unfolding storageAnswer
-returns-2 c = simp (c .top-of .ensures, c .before .enum-told2 .given .1, back)
+returns-2 c = simp (c .top-of .ensures, c .before .enum-told2 .given .1)
 
 returns-3 : tie.Need-returns-3
 unfolding storageAnswer
-returns-3 c = simp (c .enum-told3 .given .1, back)
+returns-3 c = simp (c .enum-told3 .given .1)
 
 pub answer-spec : {M : Type 1} → statement M
 answer-spec =

@@ -1,6 +1,5 @@
 use borrow.Author.Needs.{needs}
 use Rattle.semantics.specs.Stack.{storageAnswer, sameVecRet}
-use Rattle.semantics.proofs.Laws.{back}
 use Rattle.semantics.proofs.vec.right.Statement.{statement}
 use Rattle.semantics.proofs.vec.right.Tie as tie
 
@@ -48,39 +47,39 @@ enum-known-ret-2 c = search needs
 
 returns : tie.Need-returns
 unfolding storageAnswer sameVecRet
-returns c = simp (c .enum-told2 .given .1, c .before .before .enum-told .given .1, back)
+returns c = simp (c .enum-told2 .given .1, c .before .before .enum-told .given .1)
 
 returns-2 : tie.Need-returns-2
 unfolding storageAnswer sameVecRet
-returns-2 c = simp (c .enum-told3 .given .1, c .before .before .enum-told .given .1, back)
+returns-2 c = simp (c .enum-told3 .given .1, c .before .before .enum-told .given .1)
 
 returns-3 : tie.Need-returns-3
 unfolding storageAnswer sameVecRet
-returns-3 c = simp (c .enum-told4 .given .1, c .before .before .enum-told .given .1, back)
+returns-3 c = simp (c .enum-told4 .given .1, c .before .before .enum-told .given .1)
 
 returns-4 : tie.Need-returns-4
 unfolding storageAnswer sameVecRet
-returns-4 c = simp (c .enum-told6 .given .1, c .before .before .enum-told5 .given .1, back)
+returns-4 c = simp (c .enum-told6 .given .1, c .before .before .enum-told5 .given .1)
 
 returns-5 : tie.Need-returns-5
 unfolding storageAnswer sameVecRet
-returns-5 c = simp (c .same-maybe .ensures, c .before .top-of .ensures, c .before .before .before .ret .given .1, c .before .before .before .before .before .enum-told5 .given .1, back, c .before .before .known-told .given .0 .1)
+returns-5 c = simp (c .same-maybe .ensures, c .before .top-of .ensures, c .before .before .before .ret .given .1, c .before .before .before .before .before .enum-told5 .given .1)
 
 returns-6 : tie.Need-returns-6
 unfolding storageAnswer sameVecRet
-returns-6 c = simp (c .enum-told7 .given .1, c .before .before .enum-told5 .given .1, back)
+returns-6 c = simp (c .enum-told7 .given .1, c .before .before .enum-told5 .given .1)
 
 returns-7 : tie.Need-returns-7
 unfolding storageAnswer sameVecRet
-returns-7 c = simp (c .enum-told9 .given .1, c .before .before .enum-told8 .given .1, back)
+returns-7 c = simp (c .enum-told9 .given .1, c .before .before .enum-told8 .given .1)
 
 returns-8 : tie.Need-returns-8
 unfolding storageAnswer sameVecRet
-returns-8 c = simp (c .enum-told10 .given .1, c .before .before .enum-told8 .given .1, back)
+returns-8 c = simp (c .enum-told10 .given .1, c .before .before .enum-told8 .given .1)
 
 returns-9 : tie.Need-returns-9
 unfolding storageAnswer sameVecRet
-returns-9 c = simp (c .before .ret2 .given .1, c .before .before .before .enum-told8 .given .1, back, c .known-told2 .given .0 .1)
+returns-9 c = simp (c .before .ret2 .given .1, c .before .before .before .enum-told8 .given .1)
 
 pub right-spec : {M : Type 1} → statement M
 right-spec =

@@ -7,7 +7,7 @@ use Rattle.semantics.proofs.vec.top_of.Tie as tie
 
 returns : tie.Need-returns
 unfolding topOf itemAt
-returns c = simp (eq-eqb _ _ (c .if1 .taken), back)
+returns c = simp (eq-eqb _ _ (c .if1 .taken))
 
 sub-at : tie.Need-sub-at
 sub-at c = search needs
@@ -27,7 +27,7 @@ returns-2 c = simp (lt-ltb _ _ (c .before .if2 .taken), ne-eqb _ _ (c .before .b
 
 returns-3 : tie.Need-returns-3
 unfolding topOf itemAt
-returns-3 c = simp (le-ltb _ _ (c .if2 .left), ne-eqb _ _ (c .before .if1 .left), back)
+returns-3 c = simp (le-ltb _ _ (c .if2 .left), ne-eqb _ _ (c .before .if1 .left))
 
 pub top-of-spec : {M : Type 1} → statement M
 top-of-spec =

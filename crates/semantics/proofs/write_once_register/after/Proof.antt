@@ -22,11 +22,11 @@ returns c = simp (c .enum-told .given .1, c .before .before .before .op .given .
 
 returns-2 : tie.Need-returns-2
 unfolding onceAfter
-returns-2 c = simp (c .enum-told2 .given .1, c .before .before .before .op .given .1, back, c .before .before .known-told .given .0 .1)
+returns-2 c = simp (c .enum-told2 .given .1, c .before .before .before .op .given .1)
 
 returns-3 : tie.Need-returns-3
 unfolding onceAfter
-returns-3 c = simp (c .enum-told3 .given .1, back)
+returns-3 c = simp (c .enum-told3 .given .1)
 
 pub after-spec : {M : Type 1} → statement M
 after-spec =

@@ -24,7 +24,7 @@ returns-2 c = simp (c .before .before .before .op .given .1, simp (back, c .befo
 
 returns-3 : tie.Need-returns-3
 unfolding onceAnswer writeAnswer
-returns-3 c = simp (c .enum-told .given .1, back)
+returns-3 c = simp (c .enum-told .given .1)
 
 pub answer-spec : {M : Type 1} → statement M
 answer-spec =

@@ -34,15 +34,15 @@ returns c = simp (c .wrote .ensures, c .before .writes-ok .ensures, c .before .b
 
 returns-2 : tie.Need-returns-2
 unfolding onceAnswer sameOnceRet
-returns-2 c = simp (c .enum-told2 .given .1, c .before .before .enum-told .given .1, back)
+returns-2 c = simp (c .enum-told2 .given .1, c .before .before .enum-told .given .1)
 
 returns-3 : tie.Need-returns-3
 unfolding onceAnswer sameOnceRet
-returns-3 c = simp (c .enum-told3 .given .1, c .before .before .enum-told .given .1, back)
+returns-3 c = simp (c .enum-told3 .given .1, c .before .before .enum-told .given .1)
 
 returns-4 : tie.Need-returns-4
 unfolding onceAnswer sameOnceRet
-returns-4 c = simp (c .same-maybe .ensures, c .before .before .ret .given .1, c .before .before .before .before .enum-told .given .1, back, c .before .known-told2 .given .0 .1)
+returns-4 c = simp (c .same-maybe .ensures, c .before .before .ret .given .1, c .before .before .before .before .enum-told .given .1)
 
 pub right-spec : {M : Type 1} → statement M
 right-spec =

@@ -15,7 +15,7 @@ same-value-requires c κs = search needs
 
 returns : tie.Need-returns
 unfolding writes
-returns c = simp (c .enum-told .given .1, back, c .before .before .fits .v .sfits)
+returns c = simp (c .enum-told .given .1)
 
 returns-2 : tie.Need-returns-2
 unfolding writes

@@ -1,0 +1,49 @@
+//! A family of objects as the list needs it: its numbers, and where its inputs come from.
+
+mod register;
+mod stack;
+mod write_once;
+
+use crate::random::Random;
+use stateright::semantics::SequentialSpec;
+
+pub use stack::ROOM;
+
+/// The values that are tried one by one.
+pub const VALUES: [i32; 5] = [0, 1, -1, i32::MIN, i32::MAX];
+
+pub trait Family: SequentialSpec + Clone {
+    /// The family's number in the list.
+    const NUMBER: i64;
+
+    /// The values of the objects from which every step is tried.
+    fn starts() -> Vec<Vec<i32>>;
+    /// A start of a longer walk.
+    fn random_start(random: &mut Random) -> Vec<i32>;
+    /// The object that holds these values.
+    fn holding(values: &[i32]) -> Self;
+    /// The values that the object holds.
+    fn held(&self) -> Vec<i32>;
+
+    /// Every operation, with each of the values to try.
+    fn operations() -> Vec<Self::Op>;
+    /// Every return, with each of the values to try.
+    fn returns() -> Vec<Self::Ret>;
+    /// An operation that this object has room for.
+    fn random_operation(&self, random: &mut Random) -> Self::Op;
+    /// A return of any kind, most often a wrong one.
+    fn random_return(&self, random: &mut Random) -> Self::Ret;
+
+    /// OP V
+    fn operation_numbers(op: &Self::Op) -> [i64; 2];
+    /// RET RN RV
+    fn return_numbers(ret: &Self::Ret) -> [i64; 3];
+}
+
+/// A return's numbers where it may carry a value: how many it carries, and which.
+fn carried(number: i64, value: Option<i32>) -> [i64; 3] {
+    match value {
+        None => [number, 0, 0],
+        Some(v) => [number, 1, v.into()],
+    }
+}

@@ -1,0 +1,79 @@
+//! One object at a time, asked through `SequentialSpec`, and each answer written as a line of numbers.
+
+use crate::family::{Family, ROOM};
+
+const START: i64 = 0;
+const INVOKE: i64 = 1;
+const STEP: i64 = 2;
+const HISTORY: i64 = 3;
+
+pub struct Transcript<F> {
+    pub object: F,
+    text: String,
+}
+
+impl<F: Family> Transcript<F> {
+    /// Begins with a new object that holds these values.
+    pub fn starting(values: &[i32]) -> Self {
+        let mut transcript = Transcript {
+            object: F::holding(values),
+            text: String::new(),
+        };
+        transcript.write(vec![START, F::NUMBER]);
+        transcript
+    }
+
+    pub fn invoke(&mut self, op: F::Op) {
+        let mut line = vec![INVOKE];
+        line.extend(F::operation_numbers(&op));
+        line.extend(F::return_numbers(&self.object.invoke(&op)));
+        self.write(line);
+    }
+
+    pub fn step(&mut self, op: F::Op, ret: F::Ret) {
+        let mut line = vec![STEP];
+        line.extend(step_numbers::<F>(&op, &ret));
+        line.push(self.object.is_valid_step(&op, &ret).into());
+        self.write(line);
+    }
+
+    pub fn history(&mut self, steps: Vec<(F::Op, F::Ret)>) {
+        let mut line = vec![HISTORY, number(steps.len())];
+        line.extend(
+            steps
+                .iter()
+                .flat_map(|(op, ret)| step_numbers::<F>(op, ret)),
+        );
+        line.push(self.object.is_valid_history(steps).into());
+        self.write(line);
+    }
+
+    /// What has been written.
+    pub fn text(self) -> String {
+        self.text
+    }
+
+    /// Ends a line by what the object now holds.
+    fn write(&mut self, mut line: Vec<i64>) {
+        let held = self.object.held();
+        assert!(
+            held.len() <= ROOM,
+            "the port's stack has no room for {} values",
+            held.len()
+        );
+        line.push(number(held.len()));
+        line.extend(held.into_iter().map(i64::from));
+        let words: Vec<String> = line.iter().map(i64::to_string).collect();
+        self.text.push_str(&words.join(" "));
+        self.text.push('\n');
+    }
+}
+
+/// OP V RET RN RV
+fn step_numbers<F: Family>(op: &F::Op, ret: &F::Ret) -> Vec<i64> {
+    [&F::operation_numbers(op)[..], &F::return_numbers(ret)[..]].concat()
+}
+
+fn number(count: usize) -> i64 {
+    i64::try_from(count).expect("a count")
+}

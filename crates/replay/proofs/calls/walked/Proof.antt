@@ -1,0 +1,81 @@
+-- `replay::calls::walked` is safe and ends. The measure is the number of steps left.
+use borrow.Author.Needs.{needs}
+use Rattle.replay.proofs.calls.walked.Statement.{statement}
+use Rattle.replay.proofs.calls.walked.Tie as tie
+
+abbrev Inv-loop : tie.InvT-loop
+Inv-loop object fields steps walk₀ at₀ left₀ walk at left = Unit
+
+abbrev μ-loop : tie.MeasureT-loop
+μ-loop object fields steps walk₀ at₀ left₀ walk at left = left
+
+natural-requires : tie.Need-natural-requires Inv-loop μ-loop
+natural-requires c κs = search needs
+
+unreadable-requires : tie.Need-unreadable-requires Inv-loop μ-loop
+unreadable-requires c κs = search needs
+
+returns : tie.Need-returns Inv-loop μ-loop
+returns c = search needs
+
+is-valid-history-requires : tie.Need-is-valid-history-requires Inv-loop μ-loop
+is-valid-history-requires c κs = search needs
+
+loop-holds : tie.Need-loop-holds Inv-loop μ-loop
+loop-holds c = search needs
+
+from-requires : tie.Need-from-requires Inv-loop μ-loop
+from-requires c κs = search needs
+
+with-step-requires : tie.Need-with-step-requires Inv-loop μ-loop
+with-step-requires c κs = search needs
+
+past-step-requires : tie.Need-past-step-requires Inv-loop μ-loop
+past-step-requires c κs = search needs
+
+sub-left : tie.Need-sub-left Inv-loop μ-loop
+sub-left c = search needs
+
+loop-less : tie.Need-loop-less Inv-loop μ-loop
+loop-less c = search needs
+
+loop-again : tie.Need-loop-again Inv-loop μ-loop
+loop-again c = search needs
+
+from-requires-2 : tie.Need-from-requires-2 Inv-loop μ-loop
+from-requires-2 c κs = search needs
+
+is-said-requires : tie.Need-is-said-requires Inv-loop μ-loop
+is-said-requires c κs = search needs
+
+returns-2 : tie.Need-returns-2 Inv-loop μ-loop
+returns-2 c = search needs
+
+unreadable-requires-2 : tie.Need-unreadable-requires-2 Inv-loop μ-loop
+unreadable-requires-2 c κs = search needs
+
+returns-3 : tie.Need-returns-3 Inv-loop μ-loop
+returns-3 c = search needs
+
+pub walked-spec : {M : Type 1} → statement M
+walked-spec =
+    tie.close
+    (tie.spec
+    Inv-loop
+    μ-loop
+    natural-requires
+    unreadable-requires
+    returns
+    is-valid-history-requires
+    loop-holds
+    from-requires
+    with-step-requires
+    past-step-requires
+    sub-left
+    loop-less
+    loop-again
+    from-requires-2
+    is-said-requires
+    returns-2
+    unreadable-requires-2
+    returns-3)

@@ -1,0 +1,53 @@
+-- `replay::objects::items_at` is safe and ends. The invariant: the storage keeps its length. The measure is the number of places left.
+use mathlib.Core.Path.{_≡_}
+use Prim.Native.Nat.{_-_}
+use Rattle.semantics.specs.Stack.{room}
+use borrow.Author.Needs.{needs}
+use lib.ListN.{length}
+use Rattle.replay.proofs.objects.items_at.Statement.{statement}
+use Rattle.replay.proofs.objects.items_at.Tie as tie
+
+abbrev Inv-loop : tie.InvT-loop
+Inv-loop values items₀ i₀ items i = length items ≡ room
+
+abbrev μ-loop : tie.MeasureT-loop
+μ-loop values items₀ i₀ items i = room - i
+
+loop-holds : tie.Need-loop-holds Inv-loop μ-loop
+loop-holds c = search needs
+
+value-or-zero-requires : tie.Need-value-or-zero-requires Inv-loop μ-loop
+value-or-zero-requires c κs = search needs
+
+mul-items : tie.Need-mul-items Inv-loop μ-loop
+mul-items c = search needs
+
+array-set-from-items : tie.Need-array-set-from-items Inv-loop μ-loop
+array-set-from-items c = search needs
+
+add-i : tie.Need-add-i Inv-loop μ-loop
+add-i c = search needs
+
+loop-less : tie.Need-loop-less Inv-loop μ-loop
+loop-less c = search needs
+
+loop-again : tie.Need-loop-again Inv-loop μ-loop
+loop-again c = search needs
+
+returns : tie.Need-returns Inv-loop μ-loop
+returns c = search needs
+
+pub items-at-spec : {M : Type 1} → statement M
+items-at-spec =
+    tie.close
+    (tie.spec
+    Inv-loop
+    μ-loop
+    loop-holds
+    value-or-zero-requires
+    mul-items
+    array-set-from-items
+    add-i
+    loop-less
+    loop-again
+    returns)
