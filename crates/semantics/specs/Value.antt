@@ -1,4 +1,5 @@
--- Values, when two are the same, and a choice by a test.
+-- Values, when two are the same, a choice by a test, and that a promise which is an equation leaves one outcome.
+use mathlib.Core.Path.{_≡_, sym, _∙_}
 use mathlib.Core.Bool.{Bool, true, false}
 use lib.IntN.{ℤ, pos, negsuc}
 use lib.Dec.{eqb}
@@ -20,3 +21,7 @@ sameMaybe Nothing Nothing = true
 sameMaybe Nothing (Value b) = false
 sameMaybe (Value a) Nothing = false
 sameMaybe (Value a) (Value b) = eqZ a b
+
+-- Where the promise of a call is that what it hands back equals a definition, no second outcome satisfies it.
+pub one-outcome : {A : Type 0} {defined a b : A} → a ≡ defined → b ≡ defined → a ≡ b
+one-outcome h k = h ∙ sym k
