@@ -1,6 +1,6 @@
 -- `replay::objects::items_hold` is safe and ends. The measure is the number of places left.
 use Prim.Native.Nat.{_-_}
-use Rattle.semantics.specs.Stack.{room}
+use Rattle.semantics.specs.Sizes.{room}
 use borrow.Author.Needs.{needs}
 use Rattle.replay.proofs.objects.items_hold.Statement.{statement}
 use Rattle.replay.proofs.objects.items_hold.Tie as tie
