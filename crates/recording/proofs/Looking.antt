@@ -1,0 +1,138 @@
+-- What the loop of the pass keeps, and what it answers.
+use Prim.Native.Nat.{ℕ, _+_, _<_, _≤_}
+use mathlib.Core.Path.{_≡_, refl, sym, ap, _∙_}
+use mathlib.Core.Bool.{Bool, true, false}
+use mathlib.Core.List.{List, [], _∷_}
+use native.Mathlib.Omega.{arith}
+use lib.Dec.{ltb, eqb, leb}
+use lib.ListN.{length, replicate, drop, length-set, length-replicate}
+use borrow.Author.Tests.{le-leb, leb-true, ltb-true}
+use Rattle.semantics.specs.Value.{pick}
+use Rattle.semantics.specs.Sizes.{threads, capacity, startRoom}
+use Rattle.semantics.specs.Family.{opFamily}
+use Rattle.semantics.specs.Refusals.{depthOf}
+use Rattle.semantics.specs.declared.placing.Outcome.{Outcome}
+use Rattle.semantics.specs.declared.placing.Outcome.the-variants.{Pending, Returned}
+use Rattle.recording.specs.declared.consistency_tester.Operation.{Operation}
+use Rattle.recording.specs.declared.consistency_tester.History.{History}
+use Rattle.recording.specs.declared.shape.Look.{Look}
+use Rattle.recording.specs.Record.{blankOperation, held, operationAt, findFlying}
+use Rattle.recording.specs.Shape.{family, outcomeFits, operationFits, shapeOf, shapedWith}
+use Rattle.recording.specs.Pass.{Looks, sizesFit, goesOn, countsIn, leftAfter, flyingAfter, noneLeft}
+use Rattle.recording.proofs.Laws.{held-cons, held-end, neither, both, never}
+use Rattle.recording.proofs.Passing.{rest, located, rest-start, located-start, rest-end, located-end, rest-unfit, rest-no, rest-yes, located-step}
+
+-- before the operation at place i
+pub record Looking (h : History) (f : ℕ) (flying left : List ℕ) (i : ℕ) : Type 0 where
+  pub within : i ≤ h .count
+  pub left-long : length left ≡ threads
+  pub flying-long : length flying ≡ threads
+  pub same : rest f left flying (drop i (held h)) ≡ shapeOf h
+  pub placed : (t : ℕ) → located t i flying (drop i (held h)) ≡ findFlying t h
+
+pub look-start : (h : History) (f d : ℕ) → f ≡ family h → d ≡ depthOf (h .start .kind) → h .count ≤ capacity → d ≤ startRoom
+    → length (h .done) ≡ threads → Looking h f (replicate threads 0) (h .done) 0
+look-start h f d e q a b l = record {
+  within = omega arith;
+  left-long = l;
+  flying-long = length-replicate {A = ℕ} threads 0;
+  same = rw e (rest-start h (le-leb _ _ a) (ap (λ (n : ℕ). leb n startRoom) (sym q) ∙ le-leb d startRoom b));
+  placed = located-start h;
+}
+
+-- an operation that fits is of one of the threads
+pub fits-known : (f : ℕ) (o : Operation) → operationFits f o ≡ true → o .thread < threads
+unfolding operationFits
+fits-known f o e =
+    ltb-true _ _ (both (ltb (o .thread) threads) (pick (eqb (opFamily (o .op)) f) (outcomeFits f (o .outcome)) false) e .0)
+
+left-length : (left : List ℕ) (o : Operation) → length (leftAfter left o) ≡ length left
+unfolding leftAfter
+left-length left o = go (o .outcome) refl
+  where
+    go : (out : Outcome) → o .outcome ≡ out → length (leftAfter left o) ≡ length left
+    go Pending e = rw e refl
+    go (Returned r) e = rw e (length-set left _ _)
+
+flying-length : (i : ℕ) (flying : List ℕ) (o : Operation) → length (flyingAfter i flying o) ≡ length flying
+unfolding flyingAfter
+flying-length i flying o = go (o .outcome) refl
+  where
+    go : (out : Outcome) → o .outcome ≡ out → length (flyingAfter i flying o) ≡ length flying
+    go Pending e = rw e (length-set flying _ _)
+    go (Returned r) e = rw e refl
+
+module _ (h : History) (long : h .count ≤ length (h .ops)) (f : ℕ) (flying left : List ℕ) (i : ℕ) (k : Looking h f flying left i) where
+  next : i < h .count → drop i (held h) ≡ operationAt h i ∷ drop (i + 1) (held h)
+  next l = held-cons (h .ops) (h .count) i blankOperation l long
+
+  pub look-no : i < h .count → countsIn f left flying (operationAt h i) ≡ false → shapeOf h ≡ false
+  unfolding countsIn
+  look-no l e = sym (k .same) ∙ ap (rest f left flying) (next l) ∙ go (operationFits f (operationAt h i)) refl
+    where
+      os : List Operation
+      os = drop (i + 1) (held h)
+
+      go : (b : Bool) → operationFits f (operationAt h i) ≡ b → rest f left flying (operationAt h i ∷ os) ≡ false
+      go false g = rest-unfit f left flying (operationAt h i) os g
+      go true g = rest-no f left flying (operationAt h i) os (fits-known f (operationAt h i) g) (rw g at e)
+
+  pub look-more : i < h .count → countsIn f left flying (operationAt h i) ≡ true
+      → (flying₁ left₁ : List ℕ) → flying₁ ≡ flyingAfter i flying (operationAt h i) → left₁ ≡ leftAfter left (operationAt h i)
+      → Looking h f flying₁ left₁ (i + 1)
+  unfolding countsIn
+  look-more l c flying₁ left₁ x y =
+      let w = both (operationFits f (operationAt h i)) (goesOn left flying (operationAt h i)) c in
+      let g = w .0 in
+      let e = w .1 in
+      let t = fits-known f (operationAt h i) g in
+      let a : operationAt h i .thread < length left = rw (k .left-long) t in
+      let b : operationAt h i .thread < length flying = rw (k .flying-long) t in
+      record {
+        within = omega arith;
+        left-long = rw y (left-length left (operationAt h i) ∙ k .left-long);
+        flying-long = rw x (flying-length i flying (operationAt h i) ∙ k .flying-long);
+        same = rw (x, y) (sym (rest-yes f i left flying (operationAt h i) (drop (i + 1) (held h)) a b g e) ∙ ap (rest f left flying) (sym (next l))
+            ∙ k .same);
+        placed = λ t. rw x (sym (located-step t i left flying (operationAt h i) (drop (i + 1) (held h)) b e) ∙ ap (located t i flying) (sym
+            (next l)) ∙ k .placed t);
+      }
+
+  past : h .count ≤ i → drop i (held h) ≡ []
+  past l = held-end (h .ops) (h .count) i l long
+
+  pub look-end : h .count ≤ i → (noted : Bool) → noted ≡ true → (r : Look) → r .flying ≡ flying → r .ok ≡ noneLeft left → Looks
+      (shapedWith noted h) h r
+  look-end l noted n r a b = record {
+    ok = b ∙ rest-end f left flying ∙ ap (rest f left flying) (sym (past l)) ∙ k .same ∙ ap (λ (b : Bool). pick b (shapeOf h) false) (sym n);
+    places = λ s t m. rw a (sym (located-end t i flying) ∙ ap (located t i flying) (sym (past l)) ∙ k .placed t);
+  }
+
+-- out of shape
+
+pub looks-no : (noted : Bool) (h : History) (r : Look) → r .ok ≡ false → shapeOf h ≡ false → Looks (shapedWith noted h) h r
+looks-no noted h r a b =
+    let e : shapedWith noted h ≡ false = rw b (neither noted) in
+    record { ok = a ∙ sym e; places = λ s. never (sym e ∙ s) }
+
+-- the sizes fit, or not
+
+pub sizes-yes : (noted : Bool) (count depth : ℕ) → sizesFit noted count depth ≡ true → (noted ≡ true) × ((count ≤ capacity) × (depth ≤ startRoom))
+unfolding sizesFit
+sizes-yes noted count depth e =
+    let a = both noted (pick (leb count capacity) (leb depth startRoom) false) e in
+    let b = both (leb count capacity) (leb depth startRoom) (a .1) in
+    (a .0, (leb-true _ _ (b .0), leb-true _ _ (b .1)))
+
+pub sizes-no : (noted : Bool) (h : History) (d : ℕ) → d ≡ depthOf (h .start .kind) → sizesFit noted (h .count) d ≡ false → (r : Look) → r .ok ≡ false
+    → Looks (shapedWith noted h) h r
+unfolding sizesFit shapeOf
+sizes-no noted h d q e r a =
+    let z : shapedWith noted h ≡ false = go noted (leb (h .count) capacity) (leb (depthOf (h .start .kind)) startRoom) _ (rw q at e) in
+    record { ok = a ∙ sym z; places = λ s. never (sym z ∙ s) }
+  where
+    go : (n c d x : Bool) → pick n (pick c d false) false ≡ false → pick n (pick c (pick d x false) false) false ≡ false
+    go false c d x z = refl
+    go true false d x z = refl
+    go true true false x z = refl
+    go true true true x z = never (sym z)

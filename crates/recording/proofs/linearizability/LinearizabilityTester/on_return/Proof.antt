@@ -1,0 +1,29 @@
+use Prim.Native.Nat.{_-_}
+use mathlib.Core.Bool.{Bool}
+use mathlib.Core.Path.{ap, _∙_}
+use borrow.Author.Needs.{needs}
+use Rattle.recording.specs.Events.{returnOf}
+use Rattle.recording.specs.Shape.{shapedWith}
+use Rattle.recording.specs.Testers.{linearizabilityAfter, linearizabilityReturn}
+use Rattle.recording.specs.declared.consistency_tester.Step.{Step}
+use Rattle.recording.proofs.linearizability.LinearizabilityTester.on_return.Statement.{statement}
+use Rattle.recording.proofs.linearizability.LinearizabilityTester.on_return.Tie as tie
+
+noted-requires : tie.Need-noted-requires
+noted-requires c κs = search needs
+
+returns-requires : tie.Need-returns-requires
+returns-requires c κs = search needs
+
+returns : tie.Need-returns
+unfolding linearizabilityReturn
+returns c =
+    let start = c .before .before .before .before .before .before in
+    let tester = start .args .self in
+    let h = tester .history in
+    let e = c .before .returns .ensures ∙ ap (λ (b : Bool). returnOf (shapedWith b h) h (start .args .thread) (start .args .ret))
+    (c .before .before .noted .ensures) in
+    ap (λ (s : Step). linearizabilityAfter s (tester .notes)) e
+
+pub on-return-spec : {M : Type 1} → statement M
+on-return-spec = tie.close (tie.spec noted-requires returns-requires returns)

@@ -1,0 +1,15 @@
+use borrow.Author.Tests.{eq-eqb, ne-eqb}
+use Rattle.recording.specs.Shape.{notable}
+use Rattle.recording.proofs.linearizability.notable_of.Statement.{statement}
+use Rattle.recording.proofs.linearizability.notable_of.Tie as tie
+
+returns : tie.Need-returns
+unfolding notable
+returns c = simp (eq-eqb _ _ (c .if1 .taken))
+
+returns-2 : tie.Need-returns-2
+unfolding notable
+returns-2 c = simp (ne-eqb _ _ (c .if1 .left))
+
+pub notable-of-spec : {M : Type 1} → statement M
+notable-of-spec = tie.close (tie.spec returns returns-2)

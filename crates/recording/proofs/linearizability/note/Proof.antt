@@ -1,0 +1,73 @@
+use Prim.Native.Nat.{ℕ, _≤_, _-_}
+use mathlib.Core.Path.{_≡_, refl, subst}
+use native.Mathlib.Omega.{arith}
+use borrow.Author.Needs.{needs}
+use Rattle.recording.specs.Testers.{notesWith}
+use Rattle.recording.proofs.Laws.{note-more}
+use Rattle.recording.proofs.linearizability.note.Statement.{statement}
+use Rattle.recording.proofs.linearizability.note.Tie as tie
+
+abbrev Inv-loop : tie.InvT-loop
+Inv-loop notes₀ done at own u₀ notes u = (u ≤ 8) × (notes ≡ notesWith done own at notes₀ u)
+
+abbrev μ-loop : tie.MeasureT-loop
+μ-loop notes₀ done at own u₀ notes u = 8 - u
+
+loop-holds : tie.Need-loop-holds Inv-loop μ-loop
+unfolding notesWith
+loop-holds c = (search needs, refl)
+
+element-copy-out-notable-of : tie.Need-element-copy-out-notable-of Inv-loop μ-loop
+element-copy-out-notable-of c = search needs
+
+cast-notable-of : tie.Need-cast-notable-of Inv-loop μ-loop
+cast-notable-of c = search needs
+
+notable-of-requires : tie.Need-notable-of-requires Inv-loop μ-loop
+notable-of-requires c κs = search needs
+
+mul-notes : tie.Need-mul-notes Inv-loop μ-loop
+mul-notes c = search needs
+
+add-notes : tie.Need-add-notes Inv-loop μ-loop
+add-notes c = search needs
+
+element-write-notes : tie.Need-element-write-notes Inv-loop μ-loop
+element-write-notes c = search needs
+
+add-u : tie.Need-add-u Inv-loop μ-loop
+add-u c = search needs
+
+loop-less : tie.Need-loop-less Inv-loop μ-loop
+loop-less c = search needs
+
+loop-again : tie.Need-loop-again Inv-loop μ-loop
+loop-again c =
+    let at-loop = c .before .before .before .loop in
+    let a = c .before .before .before .before .args in
+    (search needs, note-more _ _ _ (a .notes .now) (at-loop .notes) (at-loop .u) (c .notable-of .result) (at-loop .inv .1) (c .notable-of .ensures))
+
+returns : tie.Need-returns Inv-loop μ-loop
+returns c =
+    let at-loop = c .before .loop in
+    let a = c .before .before .args in
+    let whole : at-loop .u ≡ 8 = omega arith in
+    subst (λ (n : ℕ). at-loop .notes ≡ notesWith (a .done .now) (a .own) (a .at) (a .notes .now) n) whole (at-loop .inv .1)
+
+pub note-spec : {M : Type 1} → statement M
+note-spec =
+    tie.close
+    (tie.spec
+    Inv-loop
+    μ-loop
+    loop-holds
+    element-copy-out-notable-of
+    cast-notable-of
+    notable-of-requires
+    mul-notes
+    add-notes
+    element-write-notes
+    add-u
+    loop-less
+    loop-again
+    returns)

@@ -1,0 +1,25 @@
+use borrow.Author.Needs.{needs}
+use Rattle.recording.specs.Shape.{outcomeFits}
+use Rattle.recording.proofs.shape.outcome_fits.Statement.{statement}
+use Rattle.recording.proofs.shape.outcome_fits.Tie as tie
+
+enum-told : tie.Need-enum-told
+enum-told c = search needs
+
+enum-known-outcome : tie.Need-enum-known-outcome
+enum-known-outcome c = search needs
+
+ret-family-requires : tie.Need-ret-family-requires
+ret-family-requires c κs = search needs
+
+returns : tie.Need-returns
+unfolding outcomeFits
+returns c = simp (c .enum-told .given .1)
+
+returns-2 : tie.Need-returns-2
+unfolding outcomeFits
+returns-2 c = simp (← c .ret-family .ensures, c .before .before .outcome .given .1)
+
+pub outcome-fits-spec : {M : Type 1} → statement M
+outcome-fits-spec =
+    tie.close (tie.spec enum-told enum-known-outcome ret-family-requires returns returns-2)

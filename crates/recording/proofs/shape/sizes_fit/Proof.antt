@@ -1,0 +1,19 @@
+use borrow.Author.Tests.{le-leb, lt-leb}
+use Rattle.recording.specs.Pass.{sizesFit}
+use Rattle.recording.proofs.shape.sizes_fit.Statement.{statement}
+use Rattle.recording.proofs.shape.sizes_fit.Tie as tie
+
+returns : tie.Need-returns
+unfolding sizesFit
+returns c = simp (le-leb _ _ (c .if2 .taken), c .before .if1 .taken)
+
+returns-2 : tie.Need-returns-2
+unfolding sizesFit
+returns-2 c = simp (lt-leb _ _ (c .if2 .left), c .before .if1 .taken)
+
+returns-3 : tie.Need-returns-3
+unfolding sizesFit
+returns-3 c = simp (c .if1 .left)
+
+pub sizes-fit-spec : {M : Type 1} → statement M
+sizes-fit-spec = tie.close (tie.spec returns returns-2 returns-3)

@@ -1,0 +1,5 @@
+pub mod Record
+pub mod Shape
+pub mod Events
+pub mod Testers
+pub mod Pass

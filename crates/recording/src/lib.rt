@@ -1,0 +1,7 @@
+// Recording: events of a history fed to a linearizability tester or a sequential-consistency tester, in
+// any order whatever.
+pub mod consistency_tester;
+pub mod linearizability;
+mod refusal;
+pub mod sequential_consistency;
+pub mod shape;

@@ -1,0 +1,167 @@
+// A tester of linearizability: it also notes, with each operation, what had completed before it was invoked.
+use crate::consistency_tester;
+use crate::consistency_tester::History;
+use crate::consistency_tester::Made;
+use crate::consistency_tester::Recorded;
+use semantics::Object;
+use semantics::Op;
+use semantics::Ret;
+use semantics::sizes::OPERATIONS;
+use semantics::sizes::THREADS;
+ghost use mathlib.Core.Path.{_≡_};
+ghost use Prim.Native.Nat.{_<_};
+ghost use Rattle.recording.specs.Shape.{notable, notesFit, notesShaped};
+ghost use Rattle.recording.specs.Testers.{linearizability, notesWith, newLinearizability, linearizabilityInvoke, linearizabilityReturn, linearizabilityInvret, linearizabilityLen};
+
+// A note for each operation and thread.
+pub const NOTES: usize = 512;
+
+// `notes` has at `i * THREADS + u` how many operations of thread u had completed when operation i was
+// invoked, and 0 for its own thread.
+pub struct LinearizabilityTester {
+    pub history: History,
+    pub notes: [u8; NOTES],
+}
+
+// A new tester, and what making it came to.
+pub struct New {
+    pub made: Made,
+    pub tester: LinearizabilityTester,
+}
+
+// The tester after an event, and what recording it came to.
+pub struct After {
+    pub recorded: Recorded,
+    pub tester: LinearizabilityTester,
+}
+
+// How many completed operations of thread u an operation of thread `own` can note, and does when it is invoked.
+fn notable_of(done: u8, own: u8, u: u8) -> u8
+    ensures { λ r. ⌜ r ≡ notable done own u ⌝ }
+{
+    if u == own {
+        return 0;
+    }
+    done
+}
+
+// The notes of an operation at a place: none on its own thread, and none on what has not completed.
+fn notes_fit(notes: &[u8; NOTES], done: &[u8; THREADS], at: usize, own: u8) -> bool
+    requires { ⌜ at < 64 ⌝ }
+    ensures { λ r. ⌜ r ≡ notesFit (now (done .entry)) (now (notes .entry)) at own ⌝ }
+{
+    let mut u = 0;
+    while u < THREADS {
+        let note = notes[at * THREADS + u];
+        let most = notable_of(done[u], own, u as u8);
+        if most < note {
+            return false;
+        }
+        u += 1;
+    }
+    true
+}
+
+fn noted(history: History, notes: &[u8; NOTES]) -> bool
+    ensures { λ r. ⌜ r ≡ notesShaped (linearizability history (now (notes .entry))) ⌝ }
+{
+    let count = history.count;
+    if OPERATIONS < count {
+        return false;
+    }
+    let done = history.done;
+    let mut i = 0;
+    while i < count {
+        let o = history.ops[i];
+        if notes_fit(notes, &done, i, o.thread) {
+            i += 1;
+        } else {
+            return false;
+        }
+    }
+    true
+}
+
+// Writes the notes of an operation that is invoked now and gets that place.
+fn note(notes: &mut [u8; NOTES], done: &[u8; THREADS], at: usize, own: u8)
+    requires { ⌜ at < 64 ⌝ }
+    ensures { λ r. ⌜ now (notes .exit) ≡ notesWith (now (done .entry)) own at (now (notes .entry)) 8 ⌝ }
+{
+    let mut u = 0;
+    while u < THREADS {
+        let n = notable_of(done[u], own, u as u8);
+        notes[at * THREADS + u] = n;
+        u += 1;
+    }
+}
+
+impl LinearizabilityTester {
+    pub fn new(start: Object) -> New
+        ensures { λ r. ⌜ r ≡ newLinearizability start ⌝ }
+    {
+        let begun = consistency_tester::begin(start);
+        let made = begun.made;
+        let history = begun.history;
+        let tester = LinearizabilityTester {
+            history,
+            notes: [0; NOTES],
+        };
+        New { made, tester }
+    }
+
+    // Puts an operation of the thread in flight, with its notes.
+    pub fn on_invoke(self, thread: u32, op: Op) -> After
+        ensures { λ r. ⌜ r ≡ linearizabilityInvoke self thread op ⌝ }
+    {
+        let before = self.history;
+        let mut notes = self.notes;
+        let shaped = noted(before, &notes);
+        let step = consistency_tester::invoke(before, thread, op, shaped);
+        let recorded = step.recorded;
+        let history = step.history;
+        if consistency_tester::is_taken(recorded) {
+            let done = before.done;
+            let at = before.count;
+            note(&mut notes, &done, at, thread as u8);
+        }
+        let tester = LinearizabilityTester { history, notes };
+        After { recorded, tester }
+    }
+
+    // Completes the thread's operation in flight, and keeps its notes.
+    pub fn on_return(self, thread: u32, ret: Ret) -> After
+        ensures { λ r. ⌜ r ≡ linearizabilityReturn self thread ret ⌝ }
+    {
+        let before = self.history;
+        let notes = self.notes;
+        let shaped = noted(before, &notes);
+        let step = consistency_tester::returns(before, thread, ret, shaped);
+        let recorded = step.recorded;
+        let history = step.history;
+        let tester = LinearizabilityTester { history, notes };
+        After { recorded, tester }
+    }
+
+    // The two in turn.
+    pub fn on_invret(self, thread: u32, op: Op, ret: Ret) -> After
+        ensures { λ r. ⌜ r ≡ linearizabilityInvret self thread op ret ⌝ }
+    {
+        let after = self.on_invoke(thread, op);
+        let recorded = after.recorded;
+        if consistency_tester::is_taken(recorded) {
+            let tester = after.tester;
+            return tester.on_return(thread, ret);
+        }
+        after
+    }
+
+    // How many operations are held, completed and in flight.
+    pub fn len(self) -> usize
+        ensures { λ r. ⌜ r ≡ linearizabilityLen self ⌝ }
+    {
+        let history = self.history;
+        let notes = self.notes;
+        let shaped = noted(history, &notes);
+        consistency_tester::size(history, shaped)
+    }
+}

@@ -1,0 +1,83 @@
+// A tester of sequential consistency: it records what happens and keeps no notes.
+use crate::consistency_tester;
+use crate::consistency_tester::History;
+use crate::consistency_tester::Made;
+use crate::consistency_tester::Recorded;
+use semantics::Object;
+use semantics::Op;
+use semantics::Ret;
+ghost use mathlib.Core.Path.{_≡_};
+ghost use Rattle.recording.specs.Testers.{newSequential, sequentialInvoke, sequentialReturn, sequentialInvret, sequentialLen};
+
+pub struct SequentialConsistencyTester {
+    pub history: History,
+}
+
+// A new tester, and what making it came to.
+pub struct New {
+    pub made: Made,
+    pub tester: SequentialConsistencyTester,
+}
+
+// The tester after an event, and what recording it came to.
+pub struct After {
+    pub recorded: Recorded,
+    pub tester: SequentialConsistencyTester,
+}
+
+impl SequentialConsistencyTester {
+    pub fn new(start: Object) -> New
+        ensures { λ r. ⌜ r ≡ newSequential start ⌝ }
+    {
+        let begun = consistency_tester::begin(start);
+        let made = begun.made;
+        let history = begun.history;
+        let tester = SequentialConsistencyTester { history };
+        New { made, tester }
+    }
+
+    // Puts an operation of the thread in flight.
+    pub fn on_invoke(self, thread: u32, op: Op) -> After
+        ensures { λ r. ⌜ r ≡ sequentialInvoke self thread op ⌝ }
+    {
+        let before = self.history;
+        let step = consistency_tester::invoke(before, thread, op, true);
+        let recorded = step.recorded;
+        let history = step.history;
+        let tester = SequentialConsistencyTester { history };
+        After { recorded, tester }
+    }
+
+    // Completes the thread's operation in flight.
+    pub fn on_return(self, thread: u32, ret: Ret) -> After
+        ensures { λ r. ⌜ r ≡ sequentialReturn self thread ret ⌝ }
+    {
+        let before = self.history;
+        let step = consistency_tester::returns(before, thread, ret, true);
+        let recorded = step.recorded;
+        let history = step.history;
+        let tester = SequentialConsistencyTester { history };
+        After { recorded, tester }
+    }
+
+    // The two in turn.
+    pub fn on_invret(self, thread: u32, op: Op, ret: Ret) -> After
+        ensures { λ r. ⌜ r ≡ sequentialInvret self thread op ret ⌝ }
+    {
+        let after = self.on_invoke(thread, op);
+        let recorded = after.recorded;
+        if consistency_tester::is_taken(recorded) {
+            let tester = after.tester;
+            return tester.on_return(thread, ret);
+        }
+        after
+    }
+
+    // How many operations are held, completed and in flight.
+    pub fn len(self) -> usize
+        ensures { λ r. ⌜ r ≡ sequentialLen self ⌝ }
+    {
+        let history = self.history;
+        consistency_tester::size(history, true)
+    }
+}

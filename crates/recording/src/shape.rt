@@ -1,0 +1,139 @@
+// Whether a history is one that calls could have made, in one pass over its operations.
+use crate::consistency_tester::History;
+use crate::consistency_tester::Operation;
+use semantics::family::family_of;
+use semantics::family::op_family;
+use semantics::family::ret_family;
+use semantics::placing::Outcome;
+use semantics::refusal::depth_of;
+use semantics::sizes::OPERATIONS;
+use semantics::sizes::START;
+use semantics::sizes::THREADS;
+ghost use mathlib.Core.Path.{_≡_};
+ghost use mathlib.Core.Bool.{true};
+ghost use Prim.Native.Nat.{_<_};
+ghost use Rattle.recording.specs.Shape.{operationFits, outcomeFits, shapedWith};
+ghost use Rattle.recording.specs.Pass.{Looks, sizesFit, countsIn, leftAfter, flyingAfter, noneLeft};
+
+// Whether the history is in shape and, for each thread, where its operation in flight stands: 0 for none,
+// else one more than the place.
+pub struct Look {
+    pub ok: bool,
+    pub flying: [u8; THREADS],
+}
+
+fn outcome_fits(outcome: Outcome, family: u8) -> bool
+    ensures { λ r. ⌜ r ≡ outcomeFits family outcome ⌝ }
+{
+    match outcome {
+        Outcome::Pending => true,
+        Outcome::Returned(ret) => ret_family(ret) == family,
+    }
+}
+
+// An operation of one of the threads, of that family.
+fn operation_fits(o: Operation, family: u8) -> bool
+    ensures { λ r. ⌜ r ≡ operationFits family o ⌝ }
+{
+    let own = o.thread as usize;
+    if own < THREADS {
+        let op = o.op;
+        if op_family(op) == family {
+            let outcome = o.outcome;
+            return outcome_fits(outcome, family);
+        }
+    }
+    false
+}
+
+// Counts an operation: it fits, one in flight is its thread's last, and one that has returned is among
+// those still to come. Answers false where it is not so.
+fn count_in(
+    o: Operation,
+    family: u8,
+    at: usize,
+    left: &mut [u8; THREADS],
+    flying: &mut [u8; THREADS],
+) -> bool
+    requires { ⌜ at < 64 ⌝ }
+    ensures { λ r. ⌜ r ≡ countsIn family (now (left .entry)) (now (flying .entry)) o ⌝ }
+    ensures { λ r. ⌜ (r ≡ true → now (left .exit) ≡ leftAfter (now (left .entry)) o) ⌝ }
+    ensures { λ r. ⌜ (r ≡ true → now (flying .exit) ≡ flyingAfter at (now (flying .entry)) o) ⌝ }
+{
+    if operation_fits(o, family) {
+        let own = o.thread as usize;
+        let mark = flying[own];
+        if mark == 0 {
+            let outcome = o.outcome;
+            match outcome {
+                Outcome::Pending => {
+                    let here = (at + 1) as u8;
+                    flying[own] = here;
+                    return true;
+                }
+                Outcome::Returned(_) => {
+                    let more = left[own];
+                    if more == 0 {
+                        return false;
+                    }
+                    left[own] = more - 1;
+                    return true;
+                }
+            }
+        }
+    }
+    false
+}
+
+// Nothing is left of any thread.
+fn none_left(left: &[u8; THREADS]) -> bool
+    ensures { λ r. ⌜ r ≡ noneLeft (now (left .entry)) ⌝ }
+{
+    let mut t = 0;
+    while t < THREADS {
+        let n = left[t];
+        if n != 0 {
+            return false;
+        }
+        t += 1;
+    }
+    true
+}
+
+// Not too many operations, and not too deep a stack.
+fn sizes_fit(noted: bool, count: usize, depth: u32) -> bool
+    ensures { λ r. ⌜ r ≡ sizesFit noted count depth ⌝ }
+{
+    if noted {
+        if count <= OPERATIONS {
+            return depth <= START;
+        }
+    }
+    false
+}
+
+// `noted`: what stands beside the history is in shape.
+pub(crate) fn look_at(history: History, noted: bool) -> Look
+    ensures { λ r. ⌜ Looks (shapedWith noted history) history r ⌝ }
+{
+    let mut flying = [0u8; THREADS];
+    let count = history.count;
+    let start = history.start;
+    let kind = start.kind;
+    if sizes_fit(noted, count, depth_of(kind)) {
+        let family = family_of(kind);
+        let mut left = history.done;
+        let mut i = 0;
+        while i < count {
+            let o = history.ops[i];
+            if count_in(o, family, i, &mut left, &mut flying) {
+                i += 1;
+            } else {
+                return Look { ok: false, flying };
+            }
+        }
+        let ok = none_left(&left);
+        return Look { ok, flying };
+    }
+    Look { ok: false, flying }
+}
