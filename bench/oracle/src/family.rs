@@ -1,4 +1,4 @@
-//! A family of objects as the list needs it: its numbers, and where its inputs come from.
+//! A family of objects as the lists need it: its numbers, and where its inputs come from.
 
 mod register;
 mod stack;
@@ -6,14 +6,15 @@ mod write_once;
 
 use crate::random::Random;
 use stateright::semantics::SequentialSpec;
+use std::fmt::Debug;
 
 pub use stack::ROOM;
 
 /// The values that are tried one by one.
 pub const VALUES: [i32; 5] = [0, 1, -1, i32::MIN, i32::MAX];
 
-pub trait Family: SequentialSpec + Clone {
-    /// The family's number in the list.
+pub trait Family: SequentialSpec<Op: Clone + Debug, Ret: Clone + Debug> + Clone {
+    /// The family's number in the lists.
     const NUMBER: i64;
 
     /// The values of the objects from which every step is tried.

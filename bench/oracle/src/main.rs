@@ -1,22 +1,23 @@
 //! Prints what stateright 0.31.0 answers on fixed, seeded inputs.
 
+mod events;
 mod family;
+mod line;
 mod objects;
 mod random;
-mod transcript;
 
 use std::process::ExitCode;
 
 fn main() -> ExitCode {
     let arguments: Vec<String> = std::env::args().skip(1).collect();
-    match arguments.as_slice() {
-        [command] if command == "objects" => {
-            print!("{}", objects::list());
-            ExitCode::SUCCESS
-        }
+    let words: Vec<&str> = arguments.iter().map(String::as_str).collect();
+    match words.as_slice() {
+        ["objects"] => print!("{}", objects::list()),
+        ["events"] => print!("{}", events::list()),
         _ => {
-            eprintln!("usage: oracle objects");
-            ExitCode::FAILURE
+            eprintln!("usage: oracle objects | oracle events");
+            return ExitCode::FAILURE;
         }
     }
+    ExitCode::SUCCESS
 }

@@ -3,6 +3,7 @@
 mod every;
 mod full_stack;
 mod histories;
+mod transcript;
 mod walks;
 
 use crate::family::Family;

@@ -1,12 +1,8 @@
 //! The list that `replay` reads, `crates/replay/data/objects.txt`.
 
-use std::collections::BTreeSet;
-use std::process::Command;
+mod list;
 
-const LIST: &str = concat!(
-    env!("CARGO_MANIFEST_DIR"),
-    "/../../crates/replay/data/objects.txt"
-);
+use std::collections::BTreeSet;
 
 /// Family, operation, return, and the answer to the step.
 type Asked = [i64; 4];
@@ -15,32 +11,16 @@ const NO: [i64; 1] = [0];
 const YES: [i64; 1] = [1];
 const BOTH: [i64; 2] = [0, 1];
 
-/// The list as lines of numbers.
-fn lines() -> Vec<Vec<i64>> {
-    let text = std::fs::read_to_string(LIST).expect("the list");
-    let numbers = |line: &str| line.split(' ').map(|word| word.parse().unwrap()).collect();
-    text.lines().map(numbers).collect()
-}
-
 #[test]
 fn the_list_is_what_the_oracle_prints() {
-    let oracle = Command::new(env!("CARGO_BIN_EXE_oracle"))
-        .arg("objects")
-        .output()
-        .expect("the oracle");
-    assert!(oracle.status.success());
-    let list = std::fs::read(LIST).expect("the list");
-    assert!(
-        oracle.stdout == list,
-        "the list differs: bench/README.md says how it is made anew"
-    );
+    list::assert_is_what_the_oracle_prints("objects");
 }
 
 #[test]
 fn each_step_is_asked_for_each_answer_that_it_can_get() {
     let mut family = -1;
     let mut found = BTreeSet::new();
-    for line in lines() {
+    for line in list::lines("objects") {
         match line[0] {
             0 => family = line[1],
             2 => {

@@ -1,23 +1,20 @@
-// The three calls of the list, made and compared with what the list says of them.
+// The three calls on a bare object, made and compared with what the list says of them.
 use crate::codes::StepRead;
 use crate::codes::step_at;
+use crate::comparison;
+use crate::comparison::Comparison;
 use crate::fields::from;
 use crate::fields::natural;
 use crate::numbers::LONGEST;
 use crate::objects::holds;
 use crate::returns::same_ret;
+use crate::which::Call;
 use semantics::Answer;
 use semantics::Object;
 use semantics::Op;
 use semantics::Ret;
 use semantics::Said;
 use semantics::Stepped;
-
-pub enum Comparison {
-    Agrees,
-    Differs,
-    Unreadable,
-}
 
 pub struct Compared {
     pub comparison: Comparison,
@@ -30,16 +27,21 @@ fn unreadable(object: Object) -> Compared {
 }
 
 fn judged(agrees: bool, object: Object) -> Compared {
-    if agrees {
-        let comparison = Comparison::Agrees;
-        return Compared { comparison, object };
-    }
-    let comparison = Comparison::Differs;
+    let comparison = comparison::judged(agrees);
     Compared { comparison, object }
 }
 
+// What stands after the number of the call.
+pub fn asked(call: Call, object: Object, fields: &[u64]) -> Compared {
+    match call {
+        Call::One => invoked(object, fields),
+        Call::Two => stepped(object, fields),
+        Call::Three => walked(object, fields),
+    }
+}
+
 // OP V RET RN RV n v1 … vn
-pub fn invoked(object: Object, fields: &[u64]) -> Compared {
+fn invoked(object: Object, fields: &[u64]) -> Compared {
     let kind = object.kind;
     match step_at(kind, fields) {
         StepRead::Unknown => unreadable(object),
@@ -66,7 +68,7 @@ fn is_answer(answer: Answer, ret: Ret) -> bool {
 }
 
 // OP V RET RN RV Y n v1 … vn
-pub fn stepped(object: Object, fields: &[u64]) -> Compared {
+fn stepped(object: Object, fields: &[u64]) -> Compared {
     let kind = object.kind;
     match step_at(kind, fields) {
         StepRead::Unknown => unreadable(object),
@@ -102,7 +104,7 @@ struct Walk {
 }
 
 // k, k times OP V RET RN RV, Y n v1 … vn
-pub fn walked(object: Object, fields: &[u64]) -> Compared {
+fn walked(object: Object, fields: &[u64]) -> Compared {
     let steps = natural(fields, 0);
     if (LONGEST as u64) < steps {
         return unreadable(object);

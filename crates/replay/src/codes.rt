@@ -1,4 +1,4 @@
-// Operations and returns by their numbers in the list, each within the family of the object.
+// Operations and returns by their numbers in the lists, each within the family of the object.
 use crate::fields::from;
 use crate::fields::natural;
 use crate::fields::value;
@@ -13,12 +13,12 @@ use semantics::vec::VecRet;
 use semantics::write_once_register::WORegisterOp;
 use semantics::write_once_register::WORegisterRet;
 
-enum OpRead {
+pub enum OpRead {
     Known(Op),
     Unknown,
 }
 
-enum RetRead {
+pub enum RetRead {
     Known(Ret),
     Unknown,
 }
@@ -46,7 +46,7 @@ pub fn step_at(kind: Kind, fields: &[u64]) -> StepRead {
 }
 
 // OP V
-fn op_at(kind: Kind, fields: &[u64]) -> OpRead {
+pub fn op_at(kind: Kind, fields: &[u64]) -> OpRead {
     let code = natural(fields, 0);
     match value(fields, 1) {
         Maybe::Nothing => OpRead::Unknown,
@@ -114,7 +114,7 @@ fn stack_op(code: u64, v: i32) -> OpRead {
 }
 
 // RET RN RV
-fn ret_at(kind: Kind, fields: &[u64]) -> RetRead {
+pub fn ret_at(kind: Kind, fields: &[u64]) -> RetRead {
     let code = natural(fields, 0);
     let rest = from(fields, 1);
     match kind {

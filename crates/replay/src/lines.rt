@@ -1,129 +1,139 @@
-// The lines of the list in turn, with the object that lives on from one to the next.
+// The lines of a list in turn, with what lives on from one to the next.
 use crate::calls;
-use crate::calls::Compared;
-use crate::calls::Comparison;
+use crate::comparison::Comparison;
 use crate::fields::first;
 use crate::fields::from;
-use crate::fields::natural;
 use crate::numbers::Reading;
 use crate::objects;
-use crate::tally::Call;
-use crate::tally::Tally;
-use crate::telling::name_line;
+use crate::sequence;
+use crate::sequence::Sequence;
+use crate::tally::Line;
+use crate::which::Call;
+use crate::which::Lead;
+use crate::which::List;
+use crate::which::lead_at;
 use semantics::Kind;
 use semantics::Object;
 
-// After an unreadable line there is no object up to the next line that makes one.
-pub struct Run {
-    pub is_object: bool,
+// The bare object; or the testers' initial one, and the events so far.
+pub struct Live {
     pub object: Object,
-    pub tally: Tally,
+    pub sequence: Sequence,
 }
 
-impl Run {
-    pub fn new() -> Self {
-        let object = Object::default_register();
-        let tally = Tally::new();
-        Self {
-            is_object: false,
-            object,
-            tally,
-        }
-    }
+// What a line came to, and what lives on.
+pub struct Lived {
+    pub line: Line,
+    pub live: Live,
+}
 
-    fn counted(mut self) -> Self {
-        let tally = self.tally;
-        self.tally = tally.with_line();
-        self
-    }
+pub fn nothing() -> Live {
+    let object = Object::default_register();
+    let begun = sequence::begun(object);
+    let sequence = begun.sequence;
+    Live { object, sequence }
+}
 
-    // The list with a line more that has no end.
-    pub fn unended(self) -> Self {
-        self.counted().unreadable()
-    }
-
-    // The list with one line more, the numbers of which are the first ones of `line`.
-    pub fn with(self, reading: Reading, line: &[u64]) -> Self {
-        self.counted().with_counted(reading, line)
-    }
-
-    fn with_counted(self, reading: Reading, line: &[u64]) -> Self {
-        if reading.good {
-            return self.with_numbers(first(line, reading.count));
-        }
-        self.unreadable()
-    }
-
-    fn unreadable(mut self) -> Self {
-        let tally = self.tally;
-        name_line(tally, b": unreadable\n");
-        self.is_object = false;
-        self.tally = tally.with_unreadable().with_wrong();
-        self
-    }
-
-    fn with_numbers(self, line: &[u64]) -> Self {
-        let fields = from(line, 1);
-        let object = self.object;
-        let kind = object.kind;
-        let what = natural(line, 0);
-        if what == 0 {
-            return self.with_object(fields);
-        }
-        if self.is_object {
-            if what == 1 {
-                return self.with_answer(kind, Call::Invoke, calls::invoked(object, fields));
+// A line that has been read, the numbers of which are the first ones of `line`. Before a start there is
+// nothing to ask.
+pub fn with_read(
+    list: List,
+    is_started: bool,
+    live: Live,
+    reading: Reading,
+    line: &[u64],
+) -> Lived {
+    let numbers = numbers_of(reading, line);
+    let fields = from(numbers, 1);
+    match lead_at(numbers) {
+        Lead::Unknown => unreadable(live),
+        Lead::Start => started(list, live, fields),
+        Lead::Answer(call) => {
+            if is_started {
+                return answered(list, live, call, fields);
             }
-            if what == 2 {
-                return self.with_answer(kind, Call::Step, calls::stepped(object, fields));
-            }
-            if what == 3 {
-                return self.with_answer(kind, Call::History, calls::walked(object, fields));
-            }
+            unreadable(live)
         }
-        self.unreadable()
     }
+}
 
-    fn with_object(self, fields: &[u64]) -> Self {
-        let made = objects::object_at(fields);
-        if made.readable {
-            let object = made.object;
-            let tally = self.tally;
-            let tally = tally.with_object();
-            return Self {
-                is_object: true,
-                object,
-                tally,
-            };
-        }
-        self.unreadable()
+// The numbers of a line; none where it has anything else.
+fn numbers_of(reading: Reading, line: &[u64]) -> &[u64] {
+    if reading.good {
+        return first(line, reading.count);
     }
+    &line[..0]
+}
 
-    fn with_answer(self, kind: Kind, call: Call, compared: Compared) -> Self {
-        let comparison = compared.comparison;
-        match comparison {
-            Comparison::Unreadable => self.unreadable(),
-            Comparison::Agrees => {
-                let object = compared.object;
-                let tally = self.tally;
-                let tally = tally.with_answer(kind, call, true);
-                Self {
-                    is_object: true,
-                    object,
-                    tally,
-                }
-            }
-            Comparison::Differs => {
-                let object = compared.object;
-                let tally = self.tally;
-                name_line(tally, b": differs\n");
-                let tally = tally.with_answer(kind, call, false).with_wrong();
-                Self {
-                    is_object: true,
-                    object,
-                    tally,
-                }
-            }
+fn unreadable(live: Live) -> Lived {
+    Lived {
+        line: Line::Unreadable,
+        live,
+    }
+}
+
+fn started(list: List, live: Live, fields: &[u64]) -> Lived {
+    let made = objects::object_at(fields);
+    if made.readable {
+        let object = made.object;
+        let begun = sequence::begun(object);
+        let sequence = begun.sequence;
+        let comparison = begun.comparison;
+        let live = Live { object, sequence };
+        let line = start(list, comparison);
+        return Lived { line, live };
+    }
+    unreadable(live)
+}
+
+// Testers of an object that they refuse are as good as none.
+fn start(list: List, begun: Comparison) -> Line {
+    match list {
+        List::Objects => Line::Start,
+        List::Events => match begun {
+            Comparison::Agrees => Line::Start,
+            Comparison::Differs => Line::Unreadable,
+            Comparison::Unreadable => Line::Unreadable,
+        },
+    }
+}
+
+fn answered(list: List, live: Live, call: Call, fields: &[u64]) -> Lived {
+    let object = live.object;
+    let kind = object.kind;
+    let sequence = live.sequence;
+    match list {
+        List::Objects => {
+            let compared = calls::asked(call, object, fields);
+            let comparison = compared.comparison;
+            let object = compared.object;
+            let line = answer(kind, call, comparison);
+            let live = Live { object, sequence };
+            Lived { line, live }
         }
+        List::Events => {
+            let compared = sequence.fed(call, kind, fields);
+            let comparison = compared.comparison;
+            let sequence = compared.sequence;
+            let line = answer(kind, call, comparison);
+            let live = Live { object, sequence };
+            Lived { line, live }
+        }
+    }
+}
+
+fn answer(kind: Kind, call: Call, comparison: Comparison) -> Line {
+    match comparison {
+        Comparison::Unreadable => Line::Unreadable,
+        Comparison::Agrees => Line::Answer {
+            kind,
+            call,
+            agrees: true,
+        },
+        Comparison::Differs => Line::Answer {
+            kind,
+            call,
+            agrees: false,
+        },
     }
 }

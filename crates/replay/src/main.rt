@@ -1,28 +1,40 @@
-// Replays a list of what stateright 0.31.0 answers for bare objects, and tells how many of the answers
-// agree. The list is data/objects.txt, made by the oracle of bench/, whose README describes its lines.
+// Replays two lists of what stateright 0.31.0 answers, and tells how many of the answers agree: those of
+// bare objects, and those of both testers to the events that they are fed. The lists are data/objects.txt
+// and data/events.txt, made by the oracle of bench/, whose README describes their lines.
 mod calls;
 mod codes;
+mod comparison;
+mod events;
 mod fields;
 mod lines;
 mod list;
 mod numbers;
 mod objects;
 mod returns;
+mod sequence;
 mod tally;
 mod telling;
+mod which;
 
 use telling::say;
 use telling::say_tally;
+use which::List;
 
-fn main() {
-    let path = b"objects.txt";
+fn replay(list: List, path: &[u8]) {
+    say(path);
+    say(b"\n");
     let fd = os::open_read(path);
     if fd < 0 {
         os::fail(path);
         say(b"the list can't be opened\n");
         return;
     }
-    let tally = list::replay(fd);
+    let tally = list::replay(fd, list);
     libc::close(fd);
-    say_tally(tally);
+    say_tally(list, tally);
+}
+
+fn main() {
+    replay(List::Objects, b"objects.txt");
+    replay(List::Events, b"events.txt");
 }

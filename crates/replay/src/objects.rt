@@ -1,4 +1,4 @@
-// Objects of the list: made from what a line says that they hold, and compared with it.
+// Objects of the lists: made from what a line says that they hold, and compared with it.
 use crate::fields::from;
 use crate::fields::natural;
 use crate::fields::value;

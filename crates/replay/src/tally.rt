@@ -1,24 +1,31 @@
 // What was compared, counted by family and call.
+use crate::which::Call;
 use semantics::Kind;
 
-pub enum Call {
-    Invoke,
-    Step,
-    History,
+// What a line came to.
+pub enum Line {
+    Start,
+    Answer {
+        kind: Kind,
+        call: Call,
+        agrees: bool,
+    },
+    Unreadable,
 }
 
-// The answers of one family.
+// The answers of one family, by the number of the call.
 pub struct Answers {
-    pub invokes: u64,
-    pub steps: u64,
-    pub histories: u64,
+    pub ones: u64,
+    pub twos: u64,
+    pub threes: u64,
     pub agreed: u64,
 }
 
-// Every line is a new object, an answer of a family, or unreadable.
+// After an unreadable line nothing is asked up to the next start.
 pub struct Tally {
+    pub is_started: bool,
     pub lines: u64,
-    pub objects: u64,
+    pub starts: u64,
     pub register: Answers,
     pub write_once: Answers,
     pub stack: Answers,
@@ -46,27 +53,27 @@ pub fn sum(a: u64, b: u64) -> u64 {
 impl Answers {
     fn new() -> Self {
         Self {
-            invokes: 0,
-            steps: 0,
-            histories: 0,
+            ones: 0,
+            twos: 0,
+            threes: 0,
             agreed: 0,
         }
     }
 
     pub fn asked(self) -> u64 {
-        sum(sum(self.invokes, self.steps), self.histories)
+        sum(sum(self.ones, self.twos), self.threes)
     }
 
     fn with(mut self, call: Call, agrees: bool) -> Self {
         match call {
-            Call::Invoke => {
-                self.invokes = more(self.invokes);
+            Call::One => {
+                self.ones = more(self.ones);
             }
-            Call::Step => {
-                self.steps = more(self.steps);
+            Call::Two => {
+                self.twos = more(self.twos);
             }
-            Call::History => {
-                self.histories = more(self.histories);
+            Call::Three => {
+                self.threes = more(self.threes);
             }
         }
         if agrees {
@@ -80,8 +87,9 @@ impl Tally {
     pub fn new() -> Self {
         let none = Answers::new();
         Self {
+            is_started: false,
             lines: 0,
-            objects: 0,
+            starts: 0,
             register: none,
             write_once: none,
             stack: none,
@@ -104,27 +112,36 @@ impl Tally {
         sum(sum(register.agreed, write_once.agreed), stack.agreed)
     }
 
-    pub fn with_line(mut self) -> Self {
+    // One line more.
+    pub fn with(mut self, line: Line) -> Self {
         self.lines = more(self.lines);
+        match line {
+            Line::Start => self.with_start(),
+            Line::Unreadable => self.with_unreadable(),
+            Line::Answer { kind, call, agrees } => {
+                if agrees {
+                    return self.with_answer(kind, call, true);
+                }
+                self.wrong = more(self.wrong);
+                self.with_answer(kind, call, false)
+            }
+        }
+    }
+
+    fn with_start(mut self) -> Self {
+        self.is_started = true;
+        self.starts = more(self.starts);
         self
     }
 
-    pub fn with_object(mut self) -> Self {
-        self.objects = more(self.objects);
-        self
-    }
-
-    pub fn with_wrong(mut self) -> Self {
+    fn with_unreadable(mut self) -> Self {
+        self.is_started = false;
+        self.unreadable = more(self.unreadable);
         self.wrong = more(self.wrong);
         self
     }
 
-    pub fn with_unreadable(mut self) -> Self {
-        self.unreadable = more(self.unreadable);
-        self
-    }
-
-    pub fn with_answer(mut self, kind: Kind, call: Call, agrees: bool) -> Self {
+    fn with_answer(mut self, kind: Kind, call: Call, agrees: bool) -> Self {
         match kind {
             Kind::Register(_) => {
                 let answers = self.register;

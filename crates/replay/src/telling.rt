@@ -1,6 +1,9 @@
 // What the program writes.
 use crate::tally::Answers;
+use crate::tally::Line;
 use crate::tally::Tally;
+use crate::which::Call;
+use crate::which::List;
 use libc::STDOUT_FILENO;
 
 // Lines that are named because they differ or are unreadable, at most.
@@ -14,38 +17,80 @@ fn say_number(n: u64) {
     io::print_decimal(STDOUT_FILENO, n);
 }
 
-// Names a line, the first ones only.
-pub fn name_line(tally: Tally, what: &[u8]) {
-    if tally.wrong < NAMED {
+fn name_line(tally: Tally, what: &[u8]) {
+    if tally.wrong <= NAMED {
         say(b"line ");
         say_number(tally.lines);
         say(what);
     }
 }
 
-fn say_answers(family: &[u8], answers: Answers) {
+// Names the last line where it differs or is unreadable, the first such lines only.
+pub fn say_line(tally: Tally, line: Line) {
+    match line {
+        Line::Start => {}
+        Line::Unreadable => name_line(tally, b": unreadable\n"),
+        Line::Answer {
+            kind: _,
+            call: _,
+            agrees,
+        } => {
+            if agrees {
+                return;
+            }
+            name_line(tally, b": differs\n");
+        }
+    }
+}
+
+fn say_call(list: List, call: Call) {
+    match list {
+        List::Objects => match call {
+            Call::One => say(b" invoke"),
+            Call::Two => say(b" is_valid_step"),
+            Call::Three => say(b" is_valid_history"),
+        },
+        List::Events => match call {
+            Call::One => say(b" on_invoke"),
+            Call::Two => say(b" on_return"),
+            Call::Three => say(b" on_invret"),
+        },
+    }
+}
+
+fn say_starts(list: List) {
+    match list {
+        List::Objects => say(b" objects, "),
+        List::Events => say(b" sequences to both testers, "),
+    }
+}
+
+fn say_answers(list: List, family: &[u8], answers: Answers) {
     say(family);
     say(b": ");
-    say_number(answers.invokes);
-    say(b" invoke, ");
-    say_number(answers.steps);
-    say(b" is_valid_step, ");
-    say_number(answers.histories);
-    say(b" is_valid_history: ");
+    say_number(answers.ones);
+    say_call(list, Call::One);
+    say(b", ");
+    say_number(answers.twos);
+    say_call(list, Call::Two);
+    say(b", ");
+    say_number(answers.threes);
+    say_call(list, Call::Three);
+    say(b": ");
     say_number(answers.agreed);
     say(b" of ");
     say_number(answers.asked());
     say(b" answers agree\n");
 }
 
-pub fn say_tally(tally: Tally) {
-    say_answers(b"register", tally.register);
-    say_answers(b"write-once register", tally.write_once);
-    say_answers(b"stack", tally.stack);
+pub fn say_tally(list: List, tally: Tally) {
+    say_answers(list, b"register", tally.register);
+    say_answers(list, b"write-once register", tally.write_once);
+    say_answers(list, b"stack", tally.stack);
     say_number(tally.lines);
     say(b" lines: ");
-    say_number(tally.objects);
-    say(b" objects, ");
+    say_number(tally.starts);
+    say_starts(list);
     say_number(tally.agreed());
     say(b" of ");
     say_number(tally.asked());

@@ -1,7 +1,7 @@
 //! Every operation, and every step, from each of a few starts.
 
+use super::transcript::Transcript;
 use crate::family::Family;
-use crate::transcript::Transcript;
 
 pub fn answers<F: Family>() -> String {
     F::starts()

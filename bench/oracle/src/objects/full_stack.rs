@@ -1,8 +1,8 @@
 //! Stacks filled to the last place of the port's stack and emptied again, one value at a time.
 
+use super::transcript::Transcript;
 use crate::family::{Family, ROOM};
 use crate::random::Random;
-use crate::transcript::Transcript;
 use stateright::semantics::vec::{VecOp, VecRet};
 
 type Stack = Vec<i32>;

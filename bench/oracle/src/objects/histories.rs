@@ -1,8 +1,8 @@
 //! Histories of many lengths: right throughout, or with the first no at the start, in the middle or at the end.
 
+use super::transcript::Transcript;
 use crate::family::Family;
 use crate::random::Random;
-use crate::transcript::Transcript;
 
 const LENGTHS: [usize; 10] = [0, 1, 2, 3, 5, 8, 13, 21, 34, 64];
 const ROUNDS: usize = 3;

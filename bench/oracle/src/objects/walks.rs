@@ -1,9 +1,9 @@
 //! Long lives: operations, steps and short histories in any order on one object.
 
 use super::histories;
+use super::transcript::Transcript;
 use crate::family::Family;
 use crate::random::Random;
-use crate::transcript::Transcript;
 
 /// The steps of a short history, at most.
 const SHORT: usize = 5;

@@ -1,18 +1,21 @@
 -- `replay::list::read_all` is safe and ends. The invariant: the line's storage keeps its length. The measure is the number of turns left.
 use mathlib.Core.Path.{_≡_}
-use borrow.Author.Needs.{needs}
 use lib.ListN.{length}
+use borrow.Author.Needs.{needs}
 use Rattle.replay.proofs.list.read_all.Statement.{statement}
 use Rattle.replay.proofs.list.read_all.Tie as tie
 
 abbrev Inv-loop : tie.InvT-loop
-Inv-loop fd line₀ replayed₀ turns₀ line replayed turns = length line ≡ 1200
+Inv-loop fd list line₀ replayed₀ turns₀ line replayed turns = length line ≡ 1200
 
 abbrev μ-loop : tie.MeasureT-loop
-μ-loop fd line₀ replayed₀ turns₀ line replayed turns = turns
+μ-loop fd list line₀ replayed₀ turns₀ line replayed turns = turns
 
 new-requires : tie.Need-new-requires Inv-loop μ-loop
 new-requires c κs = search needs
+
+nothing-requires : tie.Need-nothing-requires Inv-loop μ-loop
+nothing-requires c κs = search needs
 
 new-requires-2 : tie.Need-new-requires-2 Inv-loop μ-loop
 new-requires-2 c κs = search needs
@@ -51,6 +54,7 @@ read-all-spec =
     Inv-loop
     μ-loop
     new-requires
+    nothing-requires
     new-requires-2
     loop-holds
     slice-aggregate-read-some

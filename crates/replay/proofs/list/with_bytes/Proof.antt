@@ -1,16 +1,16 @@
 -- `replay::list::with_bytes` is safe and ends. The invariant: the line's storage keeps its length. The measure is the number of bytes left.
 use Prim.Native.Nat.{_-_}
 use mathlib.Core.Path.{_≡_}
-use borrow.Author.Needs.{needs}
 use lib.ListN.{length}
+use borrow.Author.Needs.{needs}
 use Rattle.replay.proofs.list.with_bytes.Statement.{statement}
 use Rattle.replay.proofs.list.with_bytes.Tie as tie
 
 abbrev Inv-loop : tie.InvT-loop
-Inv-loop bytes line₀ reading₀ run₀ i₀ line reading run i = length line ≡ length line₀
+Inv-loop list bytes line₀ reading₀ live₀ tally₀ i₀ line reading live tally i = length line ≡ length line₀
 
 abbrev μ-loop : tie.MeasureT-loop
-μ-loop bytes line₀ reading₀ run₀ i₀ line reading run i = length bytes - i
+μ-loop list bytes line₀ reading₀ live₀ tally₀ i₀ line reading live tally i = length bytes - i
 
 loop-holds : tie.Need-loop-holds Inv-loop μ-loop
 loop-holds c = search needs
@@ -21,8 +21,11 @@ shared-slice-read-byte c = search needs
 with-requires : tie.Need-with-requires Inv-loop μ-loop
 with-requires c κs = search needs
 
-with-requires-2 : tie.Need-with-requires-2 Inv-loop μ-loop
-with-requires-2 c κs = search needs
+with-read-requires : tie.Need-with-read-requires Inv-loop μ-loop
+with-read-requires c κs = search needs
+
+with-line-requires : tie.Need-with-line-requires Inv-loop μ-loop
+with-line-requires c κs = search needs
 
 new-requires : tie.Need-new-requires Inv-loop μ-loop
 new-requires c κs = search needs
@@ -51,7 +54,8 @@ with-bytes-spec =
     loop-holds
     shared-slice-read-byte
     with-requires
-    with-requires-2
+    with-read-requires
+    with-line-requires
     new-requires
     add-i
     loop-less

@@ -1,6 +1,7 @@
 //! One object at a time, asked through `SequentialSpec`, and each answer written as a line of numbers.
 
 use crate::family::{Family, ROOM};
+use crate::line;
 
 const START: i64 = 0;
 const INVOKE: i64 = 1;
@@ -38,7 +39,7 @@ impl<F: Family> Transcript<F> {
     }
 
     pub fn history(&mut self, steps: Vec<(F::Op, F::Ret)>) {
-        let mut line = vec![HISTORY, number(steps.len())];
+        let mut line = vec![HISTORY, line::count(steps.len())];
         line.extend(
             steps
                 .iter()
@@ -54,26 +55,19 @@ impl<F: Family> Transcript<F> {
     }
 
     /// Ends a line by what the object now holds.
-    fn write(&mut self, mut line: Vec<i64>) {
+    fn write(&mut self, mut numbers: Vec<i64>) {
         let held = self.object.held();
         assert!(
             held.len() <= ROOM,
             "the port's stack has no room for {} values",
             held.len()
         );
-        line.push(number(held.len()));
-        line.extend(held.into_iter().map(i64::from));
-        let words: Vec<String> = line.iter().map(i64::to_string).collect();
-        self.text.push_str(&words.join(" "));
-        self.text.push('\n');
+        numbers.extend(line::counted(&held));
+        self.text += &line::of(&numbers);
     }
 }
 
 /// OP V RET RN RV
 fn step_numbers<F: Family>(op: &F::Op, ret: &F::Ret) -> Vec<i64> {
     [&F::operation_numbers(op)[..], &F::return_numbers(ret)[..]].concat()
-}
-
-fn number(count: usize) -> i64 {
-    i64::try_from(count).expect("a count")
 }

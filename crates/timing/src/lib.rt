@@ -1,0 +1,80 @@
+// A door for measuring: events fed to a linearizability tester of the register at 65, through its public
+// calls. It is no part of the judge.
+use recording::consistency_tester::number;
+use recording::linearizability::After;
+use recording::linearizability::LinearizabilityTester;
+use semantics::Object;
+use semantics::Op;
+use semantics::Ret;
+use semantics::register::RegisterOp;
+use semantics::register::RegisterRet;
+
+// An event is a byte: bit 0 says invoke or return, the next three the thread, the rest a value. The
+// operation is Read at 0 and else Write, the return WriteOk at 0 and else ReadOk.
+fn op_of(value: u8) -> Op {
+    if value == 0 {
+        let read = RegisterOp::Read;
+        return Op::Register(read);
+    }
+    let write = RegisterOp::Write(value as i32);
+    Op::Register(write)
+}
+
+fn ret_of(value: u8) -> Ret {
+    if value == 0 {
+        let ok = RegisterRet::WriteOk;
+        return Ret::Register(ok);
+    }
+    let ok = RegisterRet::ReadOk(value as i32);
+    Ret::Register(ok)
+}
+
+fn after(tester: LinearizabilityTester, event: u8) -> After {
+    let thread = (event / 2 % 8) as u32;
+    let value = event / 16;
+    if event % 2 == 0 {
+        return tester.on_invoke(thread, op_of(value));
+    }
+    tester.on_return(thread, ret_of(value))
+}
+
+// A tester that has been fed, and the sum of the numbers that it answered.
+struct Fed {
+    sum: u64,
+    tester: LinearizabilityTester,
+}
+
+fn feed(tester: LinearizabilityTester, events: &[u8]) -> Fed {
+    let mut tester = tester;
+    let mut sum = 0;
+    let mut i = 0;
+    while i < events.len() {
+        let after = after(tester, events[i]);
+        let recorded = after.recorded;
+        sum = std::num::wrapping_add_u64(sum, number(recorded) as u64);
+        tester = after.tester;
+        i += 1;
+    }
+    Fed { sum, tester }
+}
+
+// Feeds `before` to a fresh tester, and then the events to the tester that this makes, anew each time. The
+// answer sums what the events were answered and what the testers held after them.
+#[no_mangle]
+pub extern "C" fn timing_feed(before: &[u8], events: &[u8], times: u64) -> u64 {
+    let new = LinearizabilityTester::new(Object::register(65));
+    let fresh = new.tester;
+    let fed = feed(fresh, before);
+    let start = fed.tester;
+    let mut sum = 0;
+    let mut left = times;
+    while left > 0 {
+        let fed = feed(start, events);
+        let tester = fed.tester;
+        let history = tester.history;
+        sum = std::num::wrapping_add_u64(sum, fed.sum);
+        sum = std::num::wrapping_add_u64(sum, history.count as u64);
+        left -= 1;
+    }
+    sum
+}
