@@ -10,11 +10,12 @@ use semantics::sizes::OPERATIONS;
 use semantics::sizes::THREADS;
 ghost use mathlib.Core.Path.{_≡_};
 ghost use Prim.Native.Nat.{_<_};
+ghost use Rattle.semantics.specs.Sizes.{threads, capacity};
 ghost use Rattle.recording.specs.Shape.{notable, notesFit, notesShaped};
 ghost use Rattle.recording.specs.Testers.{linearizability, notesWith, newLinearizability, linearizabilityInvoke, linearizabilityReturn, linearizabilityInvret, linearizabilityLen};
 
 // A note for each operation and thread.
-pub const NOTES: usize = 512;
+pub const NOTES: usize = OPERATIONS * THREADS;
 
 // `notes` has at `i * THREADS + u` how many operations of thread u had completed when operation i was
 // invoked, and 0 for its own thread.
@@ -47,7 +48,7 @@ fn notable_of(done: u8, own: u8, u: u8) -> u8
 
 // The notes of an operation at a place: none on its own thread, and none on what has not completed.
 fn notes_fit(notes: &[u8; NOTES], done: &[u8; THREADS], at: usize, own: u8) -> bool
-    requires { ⌜ at < 64 ⌝ }
+    requires { ⌜ at < capacity ⌝ }
     ensures { λ r. ⌜ r ≡ notesFit (now (done .entry)) (now (notes .entry)) at own ⌝ }
 {
     let mut u = 0;
@@ -84,8 +85,8 @@ fn noted(history: History, notes: &[u8; NOTES]) -> bool
 
 // Writes the notes of an operation that is invoked now and gets that place.
 fn note(notes: &mut [u8; NOTES], done: &[u8; THREADS], at: usize, own: u8)
-    requires { ⌜ at < 64 ⌝ }
-    ensures { λ r. ⌜ now (notes .exit) ≡ notesWith (now (done .entry)) own at (now (notes .entry)) 8 ⌝ }
+    requires { ⌜ at < capacity ⌝ }
+    ensures { λ r. ⌜ now (notes .exit) ≡ notesWith (now (done .entry)) own at (now (notes .entry)) threads ⌝ }
 {
     let mut u = 0;
     while u < THREADS {

@@ -12,6 +12,7 @@ use semantics::sizes::THREADS;
 ghost use mathlib.Core.Path.{_≡_};
 ghost use mathlib.Core.Bool.{true};
 ghost use Prim.Native.Nat.{_<_};
+ghost use Rattle.semantics.specs.Sizes.{capacity};
 ghost use Rattle.recording.specs.Shape.{operationFits, outcomeFits, shapedWith};
 ghost use Rattle.recording.specs.Pass.{Looks, sizesFit, countsIn, leftAfter, flyingAfter, noneLeft};
 
@@ -55,7 +56,7 @@ fn count_in(
     left: &mut [u8; THREADS],
     flying: &mut [u8; THREADS],
 ) -> bool
-    requires { ⌜ at < 64 ⌝ }
+    requires { ⌜ at < capacity ⌝ }
     ensures { λ r. ⌜ r ≡ countsIn family (now (left .entry)) (now (flying .entry)) o ⌝ }
     ensures { λ r. ⌜ (r ≡ true → now (left .exit) ≡ leftAfter (now (left .entry)) o) ⌝ }
     ensures { λ r. ⌜ (r ≡ true → now (flying .exit) ≡ flyingAfter at (now (flying .entry)) o) ⌝ }

@@ -2,6 +2,7 @@ use Prim.Native.Nat.{_<_, _-_}
 use mathlib.Core.Path.{sym, _∙_}
 use native.Mathlib.Omega.{arith}
 use borrow.Author.Needs.{needs}
+use Rattle.semantics.specs.Sizes.{capacity}
 use Rattle.recording.proofs.Admitting.{outcome-taken, outcome-refused, returned, returned-in}
 use Rattle.recording.proofs.consistency_tester.returns.Statement.{statement}
 use Rattle.recording.proofs.consistency_tester.returns.Tie as tie
@@ -42,7 +43,7 @@ mul-o c =
     (c .before .before .before .before .before .before .before .before .place-in .ensures) _ _
     (c .before .before .before .before .before .family-of .ensures) _ (c .before .before .before .before .admit .ensures) _
     (c .before .before .before .check-return .ensures) k in
-    let at : c .place-at .result < 64 = omega (arith, fit .1 .0, c .place-at .ensures) in
+    let at : c .place-at .result < capacity = omega (arith, fit .1 .0, c .place-at .ensures) in
     omega (arith, at)
 
 element-copy-out-o : tie.Need-element-copy-out-o
@@ -57,7 +58,7 @@ element-copy-out-o c =
     (c .before .before .before .before .before .before .before .before .place-in .ensures) _ _
     (c .before .before .before .before .before .family-of .ensures) _ (c .before .before .before .before .admit .ensures) _
     (c .before .before .before .check-return .ensures) k in
-    let at : c .place-at .result < 64 = omega (arith, fit .1 .0, c .place-at .ensures) in
+    let at : c .place-at .result < capacity = omega (arith, fit .1 .0, c .place-at .ensures) in
     at
 
 mul-after : tie.Need-mul-after
@@ -73,7 +74,7 @@ mul-after c =
     (c .before .before .before .before .before .before .before .before .before .place-in .ensures) _ _
     (c .before .before .before .before .before .before .family-of .ensures) _ (c .before .before .before .before .before .admit .ensures) _
     (c .before .before .before .before .check-return .ensures) k in
-    let at : at-place-at .result < 64 = omega (arith, fit .1 .0, at-place-at .ensures) in
+    let at : at-place-at .result < capacity = omega (arith, fit .1 .0, at-place-at .ensures) in
     omega (arith, at)
 
 element-set-from-after : tie.Need-element-set-from-after
@@ -89,7 +90,7 @@ element-set-from-after c =
     (c .before .before .before .before .before .before .before .before .before .place-in .ensures) _ _
     (c .before .before .before .before .before .before .family-of .ensures) _ (c .before .before .before .before .before .admit .ensures) _
     (c .before .before .before .before .check-return .ensures) k in
-    let at : at-place-at .result < 64 = omega (arith, fit .1 .0, at-place-at .ensures) in
+    let at : at-place-at .result < capacity = omega (arith, fit .1 .0, at-place-at .ensures) in
     at
 
 array-read-d : tie.Need-array-read-d

@@ -2,16 +2,17 @@ use Prim.Native.Nat.{ℕ, _≤_, _-_}
 use mathlib.Core.Path.{_≡_, refl, subst}
 use native.Mathlib.Omega.{arith}
 use borrow.Author.Needs.{needs}
+use Rattle.semantics.specs.Sizes.{threads}
 use Rattle.recording.specs.Testers.{notesWith}
 use Rattle.recording.proofs.Laws.{note-more}
 use Rattle.recording.proofs.linearizability.note.Statement.{statement}
 use Rattle.recording.proofs.linearizability.note.Tie as tie
 
 abbrev Inv-loop : tie.InvT-loop
-Inv-loop notes₀ done at own u₀ notes u = (u ≤ 8) × (notes ≡ notesWith done own at notes₀ u)
+Inv-loop notes₀ done at own u₀ notes u = (u ≤ threads) × (notes ≡ notesWith done own at notes₀ u)
 
 abbrev μ-loop : tie.MeasureT-loop
-μ-loop notes₀ done at own u₀ notes u = 8 - u
+μ-loop notes₀ done at own u₀ notes u = threads - u
 
 loop-holds : tie.Need-loop-holds Inv-loop μ-loop
 unfolding notesWith
@@ -51,7 +52,7 @@ returns : tie.Need-returns Inv-loop μ-loop
 returns c =
     let at-loop = c .before .loop in
     let a = c .before .before .args in
-    let whole : at-loop .u ≡ 8 = omega arith in
+    let whole : at-loop .u ≡ threads = omega arith in
     subst (λ (n : ℕ). at-loop .notes ≡ notesWith (a .done .now) (a .own) (a .at) (a .notes .now) n) whole (at-loop .inv .1)
 
 pub note-spec : {M : Type 1} → statement M

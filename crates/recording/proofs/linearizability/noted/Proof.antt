@@ -4,6 +4,7 @@ use native.Mathlib.Omega.{arith}
 use lib.ListN.{drop, length}
 use borrow.Author.Needs.{needs}
 use borrow.Author.Tests.{lt-leb}
+use Rattle.semantics.specs.Sizes.{capacity}
 use Rattle.recording.specs.Record.{held}
 use Rattle.recording.specs.Shape.{notesFitFrom, notesShaped}
 use Rattle.recording.proofs.Laws.{unmapped, notes-yes, notes-no, notes-end, notes-all}
@@ -44,7 +45,7 @@ loop-again c =
     let start = c .before .before .before .before .before .before .before .before in
     let at-loop = c .before .before .before .before .before .loop in
     let h = start .args .t1 in
-    let long : length (h .ops) ≡ 64 = unmapped _ (h .ops) 64 (start .good .0 .1 .1 .1 .0 .1 .0 .1) in
+    let long : length (h .ops) ≡ capacity = unmapped _ (h .ops) capacity (start .good .0 .1 .1 .1 .0 .1 .0 .1) in
     let enough : h .count ≤ length (h .ops) = omega (arith, long, c .before .before .before .before .before .before .before .if1 .left) in
     let notes = start .args .notes .now in
     let fit = sym (c .before .notes-fit .ensures) in (
@@ -60,7 +61,7 @@ returns-2 c =
     let at-loop = c .before .before .before .before .before .loop in
     let h = start .args .t1 in
     let notes = start .args .notes .now in
-    let long : length (h .ops) ≡ 64 = unmapped _ (h .ops) 64 (start .good .0 .1 .1 .1 .0 .1 .0 .1) in
+    let long : length (h .ops) ≡ capacity = unmapped _ (h .ops) capacity (start .good .0 .1 .1 .1 .0 .1 .0 .1) in
     let enough : h .count ≤ length (h .ops) = omega (arith, long, at-if1 .left) in
     let fit = sym (c .before .notes-fit .ensures) in
     notes-all h notes _ (at-if1 .left) (sym (at-loop .inv .1) ∙ notes-no h enough notes (at-loop .i)
@@ -73,7 +74,7 @@ returns-3 c =
     let at-loop = c .before .loop in
     let h = start .args .t1 in
     let notes = start .args .notes .now in
-    let long : length (h .ops) ≡ 64 = unmapped _ (h .ops) 64 (start .good .0 .1 .1 .1 .0 .1 .0 .1) in
+    let long : length (h .ops) ≡ capacity = unmapped _ (h .ops) capacity (start .good .0 .1 .1 .1 .0 .1 .0 .1) in
     let enough : h .count ≤ length (h .ops) = omega (arith, long, at-if1 .left) in
     notes-all h notes _ (at-if1 .left) (sym (at-loop .inv .1) ∙ notes-end h enough notes (at-loop .i) (c .loop-test .left))
 

@@ -5,16 +5,17 @@ use lib.Dec.{leb}
 use lib.ListN.{getD}
 use borrow.Author.Needs.{needs}
 use borrow.Author.Tests.{lt-leb, le-leb}
+use Rattle.semantics.specs.Sizes.{threads}
 use Rattle.recording.specs.Shape.{allBelow, noteAt, notable, notesFit}
 use Rattle.recording.proofs.Laws.{below-no, below-more, below-end}
 use Rattle.recording.proofs.linearizability.notes_fit.Statement.{statement}
 use Rattle.recording.proofs.linearizability.notes_fit.Tie as tie
 
 abbrev Inv-loop : tie.InvT-loop
-Inv-loop notes done at own u₀ u = (u ≤ 8) × (allBelow (λ u. leb (noteAt notes at u) (notable (getD done u 0) own u)) u ≡ true)
+Inv-loop notes done at own u₀ u = (u ≤ threads) × (allBelow (λ u. leb (noteAt notes at u) (notable (getD done u 0) own u)) u ≡ true)
 
 abbrev μ-loop : tie.MeasureT-loop
-μ-loop notes done at own u₀ u = 8 - u
+μ-loop notes done at own u₀ u = threads - u
 
 loop-holds : tie.Need-loop-holds Inv-loop μ-loop
 unfolding allBelow
@@ -44,7 +45,7 @@ returns c =
     let a = c .before .before .before .before .before .before .args in
     let fits : ℕ → Bool = λ u. leb (noteAt (a .notes .now) (a .at) u) (notable (getD (a .done .now) u 0) (a .own) u) in
     let here = ap (leb _) (sym (c .before .notable-of .ensures)) in
-    sym (below-no fits 8 (c .before .before .before .before .before .loop .u) (c .before .before .before .before .loop-test .taken)
+    sym (below-no fits threads (c .before .before .before .before .before .loop .u) (c .before .before .before .before .loop-test .taken)
     (here ∙ lt-leb _ _ (c .if1 .taken)))
 
 add-u : tie.Need-add-u Inv-loop μ-loop
@@ -67,7 +68,7 @@ returns-2 c =
     let at-loop = c .before .loop in
     let a = c .before .before .args in
     let fits : ℕ → Bool = λ u. leb (noteAt (a .notes .now) (a .at) u) (notable (getD (a .done .now) u 0) (a .own) u) in
-    below-end fits 8 (at-loop .u) (at-loop .inv .0) (c .loop-test .left) (at-loop .inv .1)
+    below-end fits threads (at-loop .u) (at-loop .inv .0) (c .loop-test .left) (at-loop .inv .1)
 
 pub notes-fit-spec : {M : Type 1} → statement M
 notes-fit-spec =

@@ -3,6 +3,7 @@ use mathlib.Core.Path.{_≡_, refl, sym, _∙_}
 use native.Mathlib.Omega.{arith}
 use lib.ListN.{length}
 use borrow.Author.Needs.{needs}
+use Rattle.semantics.specs.Sizes.{capacity}
 use Rattle.recording.proofs.Laws.{unmapped}
 use Rattle.recording.proofs.Looking.{Looking, look-start, look-no, look-more, look-end, looks-no, sizes-yes, sizes-no}
 use Rattle.recording.proofs.shape.look_at.Statement.{statement}
@@ -74,7 +75,7 @@ loop-again c =
     let start = c .before .before .before .before .before .before .before .before .before .before .before .before .before in
     let at-count-in = c .before .count-in in
     let h = start .args .t1 in
-    let long : length (h .ops) ≡ 64 = unmapped _ (h .ops) 64 (start .good .0 .1 .1 .1 .0 .1 .0 .1) in
+    let long : length (h .ops) ≡ capacity = unmapped _ (h .ops) capacity (start .good .0 .1 .1 .1 .0 .1 .0 .1) in
     let noted = start .args .noted in
     let sizes = sizes-yes noted (h .count)
     (c .before .before .before .before .before .before .before .before .before .before .before .depth-of .result)
@@ -91,7 +92,7 @@ returns c =
     let start = c .before .before .before .before .before .before .before .before .before .before .before .before .before in
     let noted = start .args .noted in
     let h = start .args .t1 in
-    let long : length (h .ops) ≡ 64 = unmapped _ (h .ops) 64 (start .good .0 .1 .1 .1 .0 .1 .0 .1) in
+    let long : length (h .ops) ≡ capacity = unmapped _ (h .ops) capacity (start .good .0 .1 .1 .1 .0 .1 .0 .1) in
     let sizes = sizes-yes noted (h .count)
     (c .before .before .before .before .before .before .before .before .before .before .before .depth-of .result)
     (sym (c .before .before .before .before .before .before .before .before .before .before .sizes-fit .ensures)
@@ -108,7 +109,7 @@ returns-2 : tie.Need-returns-2 Inv-loop μ-loop
 returns-2 c =
     let start = c .before .before .before .before .before .before .before .before .before .before in
     let h = start .args .t1 in
-    let long : length (h .ops) ≡ 64 = unmapped _ (h .ops) 64 (start .good .0 .1 .1 .1 .0 .1 .0 .1) in
+    let long : length (h .ops) ≡ capacity = unmapped _ (h .ops) capacity (start .good .0 .1 .1 .1 .0 .1 .0 .1) in
     let noted = start .args .noted in
     let sizes = sizes-yes noted (h .count) (c .before .before .before .before .before .before .before .before .depth-of .result)
     (sym (c .before .before .before .before .before .before .before .sizes-fit .ensures)

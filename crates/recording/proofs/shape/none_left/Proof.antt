@@ -5,6 +5,7 @@ use lib.Dec.{eqb}
 use lib.ListN.{getD}
 use borrow.Author.Needs.{needs}
 use borrow.Author.Tests.{eq-eqb, ne-eqb}
+use Rattle.semantics.specs.Sizes.{threads}
 use Rattle.recording.specs.Pass.{noneLeft}
 use Rattle.recording.specs.Shape.{allBelow}
 use Rattle.recording.proofs.Laws.{below-no, below-more, below-end}
@@ -12,10 +13,10 @@ use Rattle.recording.proofs.shape.none_left.Statement.{statement}
 use Rattle.recording.proofs.shape.none_left.Tie as tie
 
 abbrev Inv-loop : tie.InvT-loop
-Inv-loop left t₀ t = (t ≤ 8) × (allBelow (λ t. eqb (getD left t 0) 0) t ≡ true)
+Inv-loop left t₀ t = (t ≤ threads) × (allBelow (λ t. eqb (getD left t 0) 0) t ≡ true)
 
 abbrev μ-loop : tie.MeasureT-loop
-μ-loop left t₀ t = 8 - t
+μ-loop left t₀ t = threads - t
 
 loop-holds : tie.Need-loop-holds Inv-loop μ-loop
 unfolding allBelow
@@ -28,7 +29,7 @@ returns : tie.Need-returns Inv-loop μ-loop
 unfolding noneLeft
 returns c =
     let zero : ℕ → Bool = λ t. eqb (getD (c .before .before .before .before .args .left .now) t 0) 0 in
-    sym (below-no zero 8 (c .before .before .before .loop .t) (c .before .before .loop-test .taken) (ne-eqb _ _ (c .if1 .taken)))
+    sym (below-no zero threads (c .before .before .before .loop .t) (c .before .before .loop-test .taken) (ne-eqb _ _ (c .if1 .taken)))
 
 add-t : tie.Need-add-t Inv-loop μ-loop
 add-t c = search needs
@@ -47,7 +48,7 @@ unfolding noneLeft
 returns-2 c =
     let at-loop = c .before .loop in
     let zero : ℕ → Bool = λ t. eqb (getD (c .before .before .args .left .now) t 0) 0 in
-    below-end zero 8 (at-loop .t) (at-loop .inv .0) (c .loop-test .left) (at-loop .inv .1)
+    below-end zero threads (at-loop .t) (at-loop .inv .0) (c .loop-test .left) (at-loop .inv .1)
 
 pub none-left-spec : {M : Type 1} → statement M
 none-left-spec =
