@@ -13,7 +13,7 @@ const OPERATIONS: usize = 12;
 pub const INVOKE: [u8; 1] = [14];
 
 pub fn is_invoke(event: u8) -> bool {
-    event % 2 == 0
+    event & 1 == 0
 }
 
 pub fn thread(event: u8) -> u32 {

@@ -5,6 +5,7 @@ use mathlib.Core.Bool.{Bool, true, false}
 use mathlib.Core.List.{List}
 use lib.Dec.{ltb, eqb}
 use borrow.Author.Tests.{ltb-true}
+use Rattle.semantics.specs.Value.{pick}
 use Rattle.semantics.specs.Sizes.{threads, capacity}
 use Rattle.semantics.specs.Family.{opFamily}
 use Rattle.semantics.specs.declared.Op.{Op}
@@ -17,7 +18,7 @@ use Rattle.recording.specs.declared.linearizability.LinearizabilityTeste
 use Rattle.recording.specs.Record.{findFlying}
 use Rattle.recording.specs.Shape.{family}
 use Rattle.recording.specs.Events.{isTaken, unless, step, invokeBy, invokeOf}
-use Rattle.recording.specs.Testers.{shapedTester, notesWith, linearizabilityAfter, linearizabilityInvoke}
+use Rattle.recording.specs.Testers.{shapedTester, notesWith, notesAfter, linearizabilityAfter, invokedBy, linearizabilityInvoke}
 use Rattle.recording.proofs.Laws.{never}
 
 -- there is room, and the thread is one of the eight
@@ -41,12 +42,18 @@ taken-in shaped h t op s e k =
     go true true true p true Nothing true q z = (ltb-true _ _ q, ltb-true _ _ p)
 
 module _ (t : LinearizabilityTester) (thread : ℕ) (op : Op) (s : Step) (e : s ≡ invokeOf (shapedTester t) (t .history) thread op) where
+  written : List ℕ
+  written = notesWith (t .history .done) thread (t .history .count) (t .notes) threads
+
+  either : {b : Bool} → isTaken (s .recorded) ≡ b → pick b written (t .notes) ≡ notesAfter t thread s
+  unfolding written
+  either k = sym (ap (λ (b : Bool). pick b written (t .notes)) k)
+
   pub invoked-yes : isTaken (s .recorded) ≡ true → (notes : List ℕ)
-      → notes ≡ notesWith (t .history .done) thread (t .history .count) (t .notes) threads → linearizabilityAfter s notes
-      ≡ linearizabilityInvoke t thread op
-  unfolding linearizabilityInvoke
-  invoked-yes k notes n = rw (← e, k, n) refl
+      → notes ≡ notesWith (t .history .done) thread (t .history .count) (t .notes) threads → linearizabilityAfter s notes ≡ linearizabilityInvoke t thread op
+  unfolding linearizabilityInvoke written
+  invoked-yes k notes n = ap (linearizabilityAfter s) (n ∙ either k) ∙ ap (invokedBy t thread) e
 
   pub invoked-no : isTaken (s .recorded) ≡ false → linearizabilityAfter s (t .notes) ≡ linearizabilityInvoke t thread op
   unfolding linearizabilityInvoke
-  invoked-no k = rw (← e, k) refl
+  invoked-no k = ap (linearizabilityAfter s) (either k) ∙ ap (invokedBy t thread) e

@@ -1,8 +1,10 @@
 // What the program writes.
+use crate::events::What;
+use crate::events::thread_of;
+use crate::events::value_of;
+use crate::events::what_of;
 use libc::STDOUT_FILENO;
 use testers::Answer;
-use testers::Answers;
-use testers::Testers;
 
 pub fn say(text: &[u8]) {
     io::write_all(STDOUT_FILENO, text);
@@ -10,6 +12,24 @@ pub fn say(text: &[u8]) {
 
 fn say_number(n: u64) {
     io::print_decimal(STDOUT_FILENO, n);
+}
+
+fn say_with(text: &[u8], value: u8) {
+    say(text);
+    say_number(value as u64);
+    say(b")");
+}
+
+fn say_event(event: u64) {
+    let value = value_of(event);
+    say(b"T");
+    say_number(thread_of(event) as u64);
+    match what_of(event) {
+        What::Read => say(b" invokes Read"),
+        What::Write => say_with(b" invokes Write(", value),
+        What::ReadOk => say_with(b" returns ReadOk(", value),
+        What::ReadDone => say_with(b" invokes Read and returns ReadOk(", value),
+    }
 }
 
 fn say_answer(answer: Answer) {
@@ -25,43 +45,33 @@ fn same(a: Answer, b: Answer) -> bool {
     false
 }
 
-// An event and its answer, or both testers' answers where they are not the same; the testers after it.
-pub fn told(event: &[u8], answers: Answers) -> Testers {
-    let linearizability = answers.linearizability;
-    let sequential = answers.sequential;
-    say(event);
+// An event and its answer; both testers' answers where they are not the same.
+pub fn tell(event: u64, linearizability: Answer, sequential: Answer) {
+    say_event(event);
+    say(b": ");
     say_answer(linearizability);
-    if same(linearizability, sequential) {} else {
-        say(b" (sequential consistency: ");
-        say_answer(sequential);
-        say(b")");
-    }
-    answers.testers
-}
-
-fn say_valid(linearizability: bool, sequential: bool) {
-    if linearizability {
-        if sequential {
-            say(b"yes");
-            return;
-        }
-        say(b"yes (sequential consistency: no)");
+    if same(linearizability, sequential) {
+        say(b"; ");
         return;
     }
-    if sequential {
-        say(b"no (sequential consistency: yes)");
-        return;
-    }
-    say(b"no");
+    say(b" (sequential consistency: ");
+    say_answer(sequential);
+    say(b"); ");
 }
 
 // The end of a trace: whether the testers' histories are valid.
-pub fn end(testers: Testers) {
-    let linearizability = testers.linearizability;
-    let first = linearizability.history;
-    let sequential = testers.sequential;
-    let second = sequential.history;
-    say(b"; valid: ");
-    say_valid(first.valid, second.valid);
-    say(b"\n");
+pub fn end(linearizability: bool, sequential: bool) {
+    if linearizability {
+        if sequential {
+            say(b"valid: yes\n");
+            return;
+        }
+        say(b"valid: yes (sequential consistency: no)\n");
+        return;
+    }
+    if sequential {
+        say(b"valid: no (sequential consistency: yes)\n");
+        return;
+    }
+    say(b"valid: no\n");
 }

@@ -1,0 +1,67 @@
+-- `wall::running::run` is safe and ends. The measure is the number of events left.
+use Prim.Native.Nat.{_-_}
+use lib.ListN.{length}
+use borrow.Author.Needs.{needs}
+use Rattle.wall.proofs.running.run.Statement.{statement}
+use Rattle.wall.proofs.running.run.Tie as tie
+
+abbrev Inv-loop : tie.InvT-loop
+Inv-loop title before events testers₀ i₀ testers i = Unit
+
+abbrev μ-loop : tie.MeasureT-loop
+μ-loop title before events testers₀ i₀ testers i = length events - i
+
+say-requires : tie.Need-say-requires Inv-loop μ-loop
+say-requires c κs = search needs
+
+fed-requires : tie.Need-fed-requires Inv-loop μ-loop
+fed-requires c κs = search needs
+
+loop-holds : tie.Need-loop-holds Inv-loop μ-loop
+loop-holds c = search needs
+
+mul-event : tie.Need-mul-event Inv-loop μ-loop
+mul-event c = search needs
+
+shared-slice-read-event : tie.Need-shared-slice-read-event Inv-loop μ-loop
+shared-slice-read-event c = search needs
+
+add-i : tie.Need-add-i Inv-loop μ-loop
+add-i c = search needs
+
+feed-requires : tie.Need-feed-requires Inv-loop μ-loop
+feed-requires c κs = search needs
+
+tell-requires : tie.Need-tell-requires Inv-loop μ-loop
+tell-requires c κs = search needs
+
+loop-less : tie.Need-loop-less Inv-loop μ-loop
+loop-less c = search needs
+
+loop-again : tie.Need-loop-again Inv-loop μ-loop
+loop-again c = search needs
+
+end-requires : tie.Need-end-requires Inv-loop μ-loop
+end-requires c κs = search needs
+
+returns : tie.Need-returns Inv-loop μ-loop
+returns c = search needs
+
+pub run-spec : {M : Type 1} → statement M
+run-spec =
+    tie.close
+    (tie.spec
+    Inv-loop
+    μ-loop
+    say-requires
+    fed-requires
+    loop-holds
+    mul-event
+    shared-slice-read-event
+    add-i
+    feed-requires
+    tell-requires
+    loop-less
+    loop-again
+    end-requires
+    returns)
