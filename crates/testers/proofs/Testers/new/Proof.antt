@@ -21,7 +21,14 @@ joined-requires c κs = search needs
 
 returns : tie.Need-returns
 unfolding newOf
-returns c = simp (c .joined .ensures, c .before .made-number2 .ensures, c .before .before .made-number .ensures, c .before .before .before .before .before .new2 .ensures, c .before .before .before .before .before .before .new .ensures)
+returns c =
+    simp (
+      c .joined .ensures,
+      c .before .made-number2 .ensures,
+      c .before .before .made-number .ensures,
+      c .before .before .before .before .before .new2 .ensures,
+      c .before .before .before .before .before .before .new .ensures,
+    )
 
 pub new-spec : {M : Type 1} → statement M
 new-spec = tie.close (tie.spec new-requires new-requires-2 made-number-requires made-number-requires-2 joined-requires returns)
