@@ -233,10 +233,6 @@ rest-yes f i left flying o os k l g e = go (o .outcome) refl
 
 -- the marks say where
 
-from-other : (t i : ℕ) (o : Operation) (os : List Operation) → flyingBy t o ≡ false → flyingFrom t i (o ∷ os) ≡ flyingFrom t (i + 1) os
-unfolding flyingFrom
-from-other t i o os e = rw e refl
-
 pub located-step : (t i : ℕ) (left flying : List ℕ) (o : Operation) (os : List Operation) → o .thread < length flying → goesOn left flying o ≡ true
     → located t i flying (o ∷ os) ≡ located t (i + 1) (flyingAfter i flying o) os
 unfolding located flyingAfter flyingFrom flyingBy isPending placeOf
