@@ -11,3 +11,6 @@ pub mod Store
 pub mod Machine
 pub mod Running
 pub mod Slices
+pub mod Loop
+pub mod Undoing
+pub mod Going
