@@ -9,6 +9,7 @@ pub mod Recorder
 pub mod Lists
 pub mod Space
 pub mod Moves
+pub mod Left
 pub mod Progress
 pub mod Numbering
 pub mod Reach

@@ -3,6 +3,7 @@ use crate::consistency_tester;
 use crate::consistency_tester::History;
 use crate::consistency_tester::Made;
 use crate::consistency_tester::Recorded;
+use crate::shape::look_at;
 use semantics::Object;
 use semantics::Op;
 use semantics::Ret;
@@ -12,7 +13,7 @@ ghost use mathlib.Core.Path.{_≡_};
 ghost use Prim.Native.Nat.{_<_};
 ghost use Rattle.semantics.specs.Sizes.{threads, capacity};
 ghost use Rattle.recording.specs.Shape.{notable, notesFit, notesShaped};
-ghost use Rattle.recording.specs.Testers.{linearizability, notesWith, newLinearizability, linearizabilityInvoke, linearizabilityReturn, linearizabilityInvret, linearizabilityLen};
+ghost use Rattle.recording.specs.Testers.{linearizability, notesWith, shapedTester, newLinearizability, linearizabilityInvoke, linearizabilityReturn, linearizabilityInvret, linearizabilityLen};
 
 // A note for each operation and thread.
 pub const NOTES: usize = OPERATIONS * THREADS;
@@ -154,6 +155,17 @@ impl LinearizabilityTester {
             return tester.on_return(thread, ret);
         }
         after
+    }
+
+    // Whether calls could have made the record; if not, it gets number 9.
+    pub fn is_in_shape(self) -> bool
+        ensures { λ r. ⌜ r ≡ shapedTester self ⌝ }
+    {
+        let history = self.history;
+        let notes = self.notes;
+        let shaped = noted(history, &notes);
+        let look = look_at(history, shaped);
+        look.ok
     }
 
     // How many operations are held, completed and in flight.

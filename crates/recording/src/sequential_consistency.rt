@@ -3,10 +3,13 @@ use crate::consistency_tester;
 use crate::consistency_tester::History;
 use crate::consistency_tester::Made;
 use crate::consistency_tester::Recorded;
+use crate::shape::look_at;
 use semantics::Object;
 use semantics::Op;
 use semantics::Ret;
 ghost use mathlib.Core.Path.{_≡_};
+ghost use mathlib.Core.Bool.{true};
+ghost use Rattle.recording.specs.Shape.{shapedWith};
 ghost use Rattle.recording.specs.Testers.{newSequential, sequentialInvoke, sequentialReturn, sequentialInvret, sequentialLen};
 
 pub struct SequentialConsistencyTester {
@@ -71,6 +74,15 @@ impl SequentialConsistencyTester {
             return tester.on_return(thread, ret);
         }
         after
+    }
+
+    // Whether calls could have made the record; if not, it gets number 9.
+    pub fn is_in_shape(self) -> bool
+        ensures { λ r. ⌜ r ≡ shapedWith true (self .history) ⌝ }
+    {
+        let history = self.history;
+        let look = look_at(history, true);
+        look.ok
     }
 
     // How many operations are held, completed and in flight.
