@@ -25,7 +25,7 @@ use Rattle.history.specs.Completions.{Fits, fits-nil, fits-whole, fits-l
 module _ (O : Object) where
   -- what is left of a row
 
-  shaped-drop : {r : List (Entry O)} (p : ℕ) → Shaped O r → Shaped O (drop p r)
+  pub shaped-drop : {r : List (Entry O)} (p : ℕ) → Shaped O r → Shaped O (drop p r)
   shaped-drop zero s = s
   shaped-drop (suc p) empty = empty
   shaped-drop (suc p) (in-flight n) = rw (drop-nil {A = Entry O} p) empty

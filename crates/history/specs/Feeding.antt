@@ -3,7 +3,7 @@ use Prim.Native.Nat.{ℕ, zero, suc, _<_}
 use mathlib.Core.Path.{_≡_, refl, sym, ap, _∙_, subst}
 use mathlib.Core.Logic.{_⊎_, inl, inr, _≢_}
 use mathlib.Core.Bool.{Bool, true, false, cond}
-use mathlib.Core.Option.{some}
+use mathlib.Core.Option.{Option, none, some}
 use mathlib.Core.List.{List, [], _∷_, _++_, append-assoc, append-nil}
 use lib.ListN.{length, set, replicate, length-set, length-replicate, getElem? as nth}
 use lib.Seq.{getD-set-same, getD-set-other}
@@ -11,7 +11,7 @@ use Rattle.history.specs.Object.{Object}
 use Rattle.history.specs.Events.{Events, invoked, returned}
 use Rattle.history.specs.Rows.{Entry, Rows, row, Is}
 use Rattle.history.specs.Recorder.{pending, flying, extend, close-row, close, new, Feeds, fed, invokes, gives-back, Fed}
-use Rattle.history.specs.Lists.{not-some, own-or-other, nth-snoc, getD-same}
+use Rattle.history.specs.Lists.{not-some, not-both, own-or-other, nth-snoc, getD-same}
 
 module _ (O : Object) where
   -- a change of one row
@@ -27,7 +27,7 @@ module _ (O : Object) where
       → P (H ++ (invoked t o ∷ [])) (extend O rows t (new O keep rows t o)))
       (return : (H : Events O) (rows : Rows O) (t : ℕ) (q : O .Ret) → t < length rows → flying O (row O rows t) ≡ true → P H rows
       → P (H ++ (returned t q ∷ [])) (close O rows t q)) where
-    along : {rows end : Rows O} {H : Events O} (A : Events O) → P A rows → Feeds O keep rows H end → P (A ++ H) end
+    pub along : {rows end : Rows O} {H : Events O} (A : Events O) → P A rows → Feeds O keep rows H end → P (A ++ H) end
     along A h (fed {rows = rows}) = subst (λ (l : Events O). P l rows) (sym (append-nil A)) h
     along A h (invokes {rows = rows} {end = end} {t = t} {o = o} {H = H} l f w) =
         subst (λ (K : Events O). P K end) (append-assoc A (invoked t o ∷ []) H) (along (A ++ (invoked t o ∷ [])) (invoke A rows t o l f h) w)
@@ -54,25 +54,39 @@ module _ (O : Object) where
       go (inl n) = w t k f n
       go (inr n) = rw (n .0, n .1) h
 
-  close-needs : (r : List (Entry O)) (q : O .Ret) (i : ℕ) (f : Entry O) → nth (close-row O r q) i ≡ some f
-      → (e : Entry O) × (nth r i ≡ some e) × (e .needs ≡ f .needs)
-  close-needs [] q i f h = not-some h
-  close-needs (e ∷ r) q i f h = go (pending O (e .ret)) i h (λ j k. close-needs r q j f k)
+  -- an operation before its thread's return: perhaps not yet completed
+  pub record Sooner (e f : Entry O) : Type 0 where
+    pub same-op : e .op ≡ f .op
+    pub same-needs : e .needs ≡ f .needs
+    pub same-ret : (e .ret ≡ f .ret) ⊎ (e .ret ≡ none)
+
+  pub sooner-self : (e : Entry O) → Sooner e e
+  sooner-self e = record { same-op = refl; same-needs = refl; same-ret = inl refl }
+
+  none-of : (a : Option (O .Ret)) → pending O a ≡ true → a ≡ none
+  none-of none h = refl
+  none-of (some q) h = not-both h refl
+
+  pub close-sooner : (r : List (Entry O)) (q : O .Ret) (i : ℕ) (f : Entry O) → nth (close-row O r q) i ≡ some f
+      → (e : Entry O) × (nth r i ≡ some e) × Sooner e f
+  close-sooner [] q i f h = not-some h
+  close-sooner (e ∷ r) q i f h = go (pending O (e .ret)) refl i h (λ j k. close-sooner r q j f k)
     where
-      go : (b : Bool) (i : ℕ) → nth (cond b (record { op = e .op; ret = some q; needs = e .needs } ∷ r) (e ∷ close-row O r q)) i ≡ some f
-          → ((j : ℕ) → nth (close-row O r q) j ≡ some f → (e : Entry O) × (nth r j ≡ some e) × (e .needs ≡ f .needs))
-          → (g : Entry O) × (nth (e ∷ r) i ≡ some g) × (g .needs ≡ f .needs)
-      go true zero h g =
+      go : (b : Bool) → pending O (e .ret) ≡ b → (i : ℕ)
+          → nth (cond b (record { op = e .op; ret = some q; needs = e .needs } ∷ r) (e ∷ close-row O r q)) i ≡ some f
+          → ((j : ℕ) → nth (close-row O r q) j ≡ some f → (e : Entry O) × (nth r j ≡ some e) × Sooner e f)
+          → (g : Entry O) × (nth (e ∷ r) i ≡ some g) × Sooner g f
+      go true b zero h g =
           let z : _≡_ {A = Entry O} (record { op = e .op; ret = some q; needs = e .needs }) f = cc in
-          (e, refl, ap (λ (x : Entry O). x .needs) z)
-      go true (suc i) h g = (f, h, refl)
-      go false zero h g = (f, h, refl)
-      go false (suc i) h g = g i h
+          (e, refl, record { same-op = ap (λ (x : Entry O). x .op) z; same-needs = ap (λ (x : Entry O). x .needs) z; same-ret = inr (none-of (e .ret) b) })
+      go true b (suc i) h g = (f, h, sooner-self f)
+      go false b zero h g = (f, h, sooner-self f)
+      go false b (suc i) h g = g i h
 
   pub notes-closed : (Q : ℕ → ℕ → List ℕ → Type 0) (rows : Rows O) (t : ℕ) (q : O .Ret) → t < length rows → AllNotes Q rows → AllNotes Q (close O rows t q)
   notes-closed Q rows t q l w u k f =
       each-row (λ u r. nth r k ≡ some f → Q u k (f .needs)) rows t _ l
-      (λ n. let c = close-needs (row O rows t) q k f n in subst (Q t k) (c .2) (w t k (c .0) (c .1))) (λ u d. w u k f) u
+      (λ n. let c = close-sooner (row O rows t) q k f n in subst (Q t k) (c .2 .same-needs) (w t k (c .0) (c .1))) (λ u d. w u k f) u
 
   module _ (keep : Rows O → ℕ → List ℕ) where
     -- one event more
@@ -109,3 +123,15 @@ module _ (O : Object) where
     -- The same events leave the same rows.
     pub fed-same : {k : ℕ} {H : Events O} {a b : Rows O} → Fed O keep k H a → Fed O keep k H b → a ≡ b
     fed-same w v = feeds-same (w .from-fresh) (v .from-fresh)
+
+    feeds-split : {rows end : Rows O} (H : Events O) {G : Events O} → Feeds O keep rows (H ++ G) end
+        → (mid : Rows O) × Feeds O keep rows H mid × Feeds O keep mid G end
+    feeds-split {rows} [] w = (rows, fed, w)
+    feeds-split (invoked t o ∷ H) (invokes l f w) = let z = feeds-split H w in (z .0, invokes l f (z .1), z .2)
+    feeds-split (returned t q ∷ H) (gives-back l f w) = let z = feeds-split H w in (z .0, gives-back l f (z .1), z .2)
+
+    -- The events that follow lead on from the rows that the first ones leave.
+    pub fed-between : {k : ℕ} {H G : Events O} {rows later : Rows O} → Fed O keep k H rows → Fed O keep k (H ++ G) later → Feeds O keep rows G later
+    fed-between {H = H} {G} {rows} {later} w v =
+        let z = feeds-split H (v .from-fresh) in
+        subst (λ (mid : Rows O). Feeds O keep mid G later) (feeds-same (z .1) (w .from-fresh)) (z .2)

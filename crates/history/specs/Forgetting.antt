@@ -20,7 +20,7 @@ map-replicate f zero a = refl
 map-replicate f (suc n) a = ap (λ (k : List _). f a ∷ k) (map-replicate f n a)
 
 module _ (O : Object) where
-  row-forget : (rows : Rows O) (t : ℕ) → row O (forget O rows) t ≡ map (noteless O) (row O rows t)
+  pub row-forget : (rows : Rows O) (t : ℕ) → row O (forget O rows) t ≡ map (noteless O) (row O rows t)
   row-forget rows t = List·getD-map (map (noteless O)) rows t []
 
   flying-forget : (r : List (Entry O)) → flying O (map (noteless O) r) ≡ flying O r

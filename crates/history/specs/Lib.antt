@@ -33,3 +33,7 @@ pub mod Explaining
 pub mod RealTime
 pub mod Theorem
 pub mod Precedence
+-- A legal order of rows, and of the same rows without their notes or before their last events.
+pub mod Alike
+pub mod Earlier
+pub mod OneWay

@@ -4,7 +4,7 @@ use mathlib.Core.Path.{_≡_, refl, sym, ap, _∙_, subst}
 use mathlib.Core.Logic.{_⊎_, inl, inr, _≢_}
 use mathlib.Core.Bool.{Bool, true, false, _&&_, true≢false, false≢true}
 use mathlib.Core.Option.{none, some, Option·none-ne-some}
-use mathlib.Core.List.{List, [], _∷_, _++_}
+use mathlib.Core.List.{List, [], _∷_, _++_, map}
 use lib.ListN.{length, getD, take, drop, replicate, getElem? as nth}
 use lib.Dec.{eqb}
 use borrow.Author.Tests.{eqb-true, eqb-false}
@@ -66,6 +66,11 @@ module _ {A : Type 0} where
   nth-take (x ∷ p) zero (suc j) h = refl
   nth-take (x ∷ p) (suc i) (suc j) h = nth-take p i j (omega arith)
 
+  pub nth-before : (p : List A) (i : ℕ) (x : A) (l : List A) → nth p i ≡ some x → nth (p ++ l) i ≡ some x
+  nth-before [] i x l h = not-some h
+  nth-before (y ∷ p) zero x l h = h
+  nth-before (y ∷ p) (suc i) x l h = nth-before p i x l h
+
   pub nth-snoc : (p : List A) (i : ℕ) (x y : A) → nth (p ++ (x ∷ [])) i ≡ some y → (nth p i ≡ some y) ⊎ ((y ≡ x) × (i ≡ length p))
   nth-snoc [] zero x y h = inr (cc, refl)
   nth-snoc [] (suc i) x y h = not-some h
@@ -101,3 +106,13 @@ module _ {A : Type 0} where
   getD-below [] t k x h = not-some h
   getD-below (r ∷ l) zero k x h = omega arith
   getD-below (r ∷ l) (suc t) k x h = omega (arith, getD-below l t k x h)
+
+pub nth-map : {A B : Type 0} (f : A → B) (p : List A) (i : ℕ) (x : A) → nth p i ≡ some x → nth (map f p) i ≡ some (f x)
+nth-map f [] i x h = not-some h
+nth-map f (y ∷ p) zero x h = let q : y ≡ x = cc in rw q
+nth-map f (y ∷ p) (suc i) x h = nth-map f p i x h
+
+pub of-nth-map : {A B : Type 0} (f : A → B) (p : List A) (i : ℕ) (y : B) → nth (map f p) i ≡ some y → (x : A) × (nth p i ≡ some x) × (f x ≡ y)
+of-nth-map f [] i y h = not-some h
+of-nth-map f (x ∷ p) zero y h = (x, refl, cc)
+of-nth-map f (x ∷ p) (suc i) y h = of-nth-map f p i y h

@@ -28,7 +28,7 @@ module _ (O : Object) where
   notes-own : (rows : Rows O) (t : ℕ) → t < length rows → getD (notes O rows t) t 0 ≡ 0
   notes-own rows t h = getD-set-same (map (completed O) rows) t 0 0 (rw (length-map rows (completed O)) h)
 
-  notes-other : (rows : Rows O) (t u : ℕ) → u ≢ t → getD (notes O rows t) u 0 ≡ completed O (row O rows u)
+  pub notes-other : (rows : Rows O) (t u : ℕ) → u ≢ t → getD (notes O rows t) u 0 ≡ completed O (row O rows u)
   notes-other rows t u h = getD-set-other (map (completed O) rows) t u 0 0 h ∙ List·getD-map (completed O) rows u []
 
   -- what is kept while events are fed: the note on u is how often u had returned, and none is on the own thread

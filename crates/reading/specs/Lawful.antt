@@ -50,6 +50,7 @@ pub record Lawful (M : Model) : Type 1 where
   pub in-shape : (s : M .Tester) → Sized (M .history s) → Parts (M .history s) → Beside s → M .shaped s ≡ true
   pub shape-in : (s : M .Tester) → M .Lengths s → M .shaped s ≡ true → Parts (M .history s) × Beside s
   pub sized : (s : M .Tester) → M .Lengths s → Sized (M .history s)
+  pub lengths : (s : M .Tester) → Sized (M .history s) → Beside s → M .Lengths s
   -- the tester after an event
   pub after-invoke : M .Tester → ℕ → Step → M .Tester
   pub after-return : M .Tester → Step → M .Tester
@@ -94,6 +95,7 @@ sequential-lawful = record {
   in-shape = λ s z w b. of-parts (s .history) w;
   shape-in = λ s z e. (parts-of (s .history) e, tt);
   sized = λ s z. z;
+  lengths = λ s z b. z;
   after-invoke = λ s t x. sequential (x .history);
   after-return = λ s x. sequential (x .history);
   makes = λ start. begun-is start .0;
@@ -143,6 +145,7 @@ linearizability-lawful = record {
     record { many = z .1; parts = notes-parts s (z .0) (pick-left (notesShaped s) (shapeOf (s .history)) e) },
   );
   sized = λ s z. z .0;
+  lengths = λ s z b. (z, b .many);
   after-invoke = λ s t x. linearizability (x .history) (notesAfter s t x);
   after-return = λ s x. linearizability (x .history) (s .notes);
   makes = λ start. begun-is start .0;

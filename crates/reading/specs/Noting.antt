@@ -27,7 +27,7 @@ notes-length : (notes : List ℕ) (i : ℕ) → length notes ≡ capacity * thre
 unfolding notesOf
 notes-length notes i e l = length-take threads (drop (i * threads) notes) ∙ rw (length-drop (i * threads) notes) (omega arith)
 
-note-in : (notes : List ℕ) (i u : ℕ) → u < threads → getD (notesOf notes i) u 0 ≡ noteAt notes i u
+pub note-in : (notes : List ℕ) (i u : ℕ) → u < threads → getD (notesOf notes i) u 0 ≡ noteAt notes i u
 unfolding notesOf
 note-in notes i u l = getD-take threads (drop (i * threads) notes) u 0 l ∙ getD-drop (i * threads) notes u 0
 
