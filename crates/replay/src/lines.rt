@@ -8,6 +8,9 @@ use crate::objects;
 use crate::sequence;
 use crate::sequence::Sequence;
 use crate::tally::Line;
+use crate::verdicts::Model;
+use crate::verdicts::compared;
+use crate::verdicts::model_at;
 use crate::which::Call;
 use crate::which::Lead;
 use crate::which::List;
@@ -90,11 +93,16 @@ fn started(list: List, live: Live, fields: &[u64]) -> Lived {
 fn start(list: List, begun: Comparison) -> Line {
     match list {
         List::Objects => Line::Start,
-        List::Events => match begun {
-            Comparison::Agrees => Line::Start,
-            Comparison::Differs => Line::Unreadable,
-            Comparison::Unreadable => Line::Unreadable,
-        },
+        List::Events => taken(begun),
+        List::Histories => taken(begun),
+    }
+}
+
+fn taken(begun: Comparison) -> Line {
+    match begun {
+        Comparison::Agrees => Line::Start,
+        Comparison::Differs => Line::Unreadable,
+        Comparison::Unreadable => Line::Unreadable,
     }
 }
 
@@ -119,6 +127,49 @@ fn answered(list: List, live: Live, call: Call, fields: &[u64]) -> Lived {
             let live = Live { object, sequence };
             Lived { line, live }
         }
+        List::Histories => recorded(live, call, fields),
+    }
+}
+
+// An event, which is fed, or the verdict on those so far.
+fn recorded(live: Live, call: Call, fields: &[u64]) -> Lived {
+    let object = live.object;
+    let kind = object.kind;
+    let sequence = live.sequence;
+    match call {
+        Call::One => fed(live, call, fields),
+        Call::Two => fed(live, call, fields),
+        Call::Three => {
+            let testers = sequence.testers;
+            let comparison = compared(testers, kind, fields);
+            let line = verdict(kind, model_at(fields), comparison);
+            Lived { line, live }
+        }
+    }
+}
+
+fn fed(live: Live, call: Call, fields: &[u64]) -> Lived {
+    let object = live.object;
+    let kind = object.kind;
+    let sequence = live.sequence;
+    let next = sequence.with_event(call, kind, fields);
+    if next.readable {
+        let sequence = next.sequence;
+        let live = Live { object, sequence };
+        return Lived {
+            line: Line::Event,
+            live,
+        };
+    }
+    unreadable(live)
+}
+
+// The first call stands for sequential consistency, the second for linearizability.
+fn verdict(kind: Kind, model: Model, comparison: Comparison) -> Line {
+    match model {
+        Model::Sequential => answer(kind, Call::One, comparison),
+        Model::Linearizable => answer(kind, Call::Two, comparison),
+        Model::Unknown => Line::Unreadable,
     }
 }
 

@@ -1,6 +1,6 @@
-// Replays two lists of what stateright 0.31.0 answers, and tells how many of the answers agree: those of
-// bare objects, and those of both testers to the events that they are fed. The lists are data/objects.txt
-// and data/events.txt, made by the oracle of bench/, whose README describes their lines.
+// Replays three lists of what stateright 0.31.0 answers, and tells how many of the answers agree: those of
+// bare objects, those of both testers to the events that they are fed, and their verdicts on histories. The
+// lists stand in data/ and are made by the oracle of bench/, whose README describes their lines.
 mod calls;
 mod codes;
 mod comparison;
@@ -14,6 +14,7 @@ mod returns;
 mod sequence;
 mod tally;
 mod telling;
+mod verdicts;
 mod which;
 
 use telling::say;
@@ -37,4 +38,5 @@ fn replay(list: List, path: &[u8]) {
 fn main() {
     replay(List::Objects, b"objects.txt");
     replay(List::Events, b"events.txt");
+    replay(List::Histories, b"histories.txt");
 }

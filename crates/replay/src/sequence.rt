@@ -77,7 +77,36 @@ fn feed(testers: Testers, thread: u32, event: Event) -> Answers {
     }
 }
 
+// A sequence with an event more, and whether that could be read.
+pub struct Extended {
+    pub readable: bool,
+    pub sequence: Sequence,
+}
+
 impl Sequence {
+    // The sequence with one event more, of which the list says nothing.
+    pub fn with_event(self, call: Call, kind: Kind, fields: &[u64]) -> Extended {
+        match event_at(call, kind, fields) {
+            EventRead::Unknown => Extended {
+                readable: false,
+                sequence: self,
+            },
+            EventRead::Known(event) => {
+                let testers = self.testers;
+                let answers = feed(testers, thread_at(fields), event);
+                let testers = answers.testers;
+                let sequence = Sequence {
+                    testers,
+                    refused: self.refused,
+                };
+                Extended {
+                    readable: true,
+                    sequence,
+                }
+            }
+        }
+    }
+
     // The sequence with one event more.
     pub fn fed(self, call: Call, kind: Kind, fields: &[u64]) -> Compared {
         match event_at(call, kind, fields) {

@@ -5,6 +5,7 @@ use semantics::Kind;
 // What a line came to.
 pub enum Line {
     Start,
+    Event,
     Answer {
         kind: Kind,
         call: Call,
@@ -117,6 +118,7 @@ impl Tally {
         self.lines = more(self.lines);
         match line {
             Line::Start => self.with_start(),
+            Line::Event => self,
             Line::Unreadable => self.with_unreadable(),
             Line::Answer { kind, call, agrees } => {
                 if agrees {

@@ -29,6 +29,7 @@ fn name_line(tally: Tally, what: &[u8]) {
 pub fn say_line(tally: Tally, line: Line) {
     match line {
         Line::Start => {}
+        Line::Event => {}
         Line::Unreadable => name_line(tally, b": unreadable\n"),
         Line::Answer {
             kind: _,
@@ -55,6 +56,11 @@ fn say_call(list: List, call: Call) {
             Call::Two => say(b" on_return"),
             Call::Three => say(b" on_invret"),
         },
+        List::Histories => match call {
+            Call::One => say(b" sequential consistency"),
+            Call::Two => say(b" linearizability"),
+            Call::Three => say(b" other"),
+        },
     }
 }
 
@@ -62,6 +68,7 @@ fn say_starts(list: List) {
     match list {
         List::Objects => say(b" objects, "),
         List::Events => say(b" sequences to both testers, "),
+        List::Histories => say(b" histories under three budgets, "),
     }
 }
 

@@ -4,9 +4,10 @@ use crate::fields::natural;
 pub enum List {
     Objects,
     Events,
+    Histories,
 }
 
-// Each list asks three calls, by their numbers.
+// Each list has three calls, by their numbers.
 pub enum Call {
     One,
     Two,

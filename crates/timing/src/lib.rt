@@ -1,5 +1,8 @@
-// A door for measuring: events fed to a linearizability tester of the register at 65, through its public
-// calls. It is no part of the judge.
+// Doors for measuring, through the public calls: events fed to a linearizability tester of the register at
+// 65, and histories judged. They are no part of the judge.
+mod events;
+mod judged;
+
 use recording::consistency_tester::number;
 use recording::linearizability::After;
 use recording::linearizability::LinearizabilityTester;

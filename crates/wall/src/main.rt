@@ -1,13 +1,22 @@
-// The traces of document 01 for the bench wall, run, one line each to hold beside it.
+// The traces of document 01 for the bench wall, run, a line each to hold beside it.
+mod calls;
 mod events;
 mod running;
 mod telling;
 mod traces;
+mod verdicts;
 
 use telling::say;
 
 fn main() {
-    say(b"each event: its number and len after it, of both testers\n");
+    say(
+        b"each order: the threads with their returns; 10 to 12: of each event its number and len after it\n",
+    );
+    traces::traces_1_and_2();
+    traces::traces_3_and_4();
+    traces::traces_5_and_6();
+    traces::trace_7();
+    traces::traces_8_and_9();
     traces::trace_10();
     traces::trace_11();
     traces::trace_12();

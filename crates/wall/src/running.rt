@@ -1,74 +1,48 @@
-// A trace fed to both testers.
-use crate::events::What;
-use crate::events::thread_of;
-use crate::events::value_of;
-use crate::events::what_of;
-use crate::telling::end;
+// A trace, run on both testers and judged by both judges.
+use crate::calls::Start;
+use crate::calls::fed;
+use crate::calls::feed;
 use crate::telling::say;
 use crate::telling::tell;
-use semantics::Object;
-use semantics::Op;
-use semantics::Ret;
-use semantics::register::RegisterOp;
-use semantics::register::RegisterRet;
-use testers::Answers;
+use crate::telling::tell_event;
+use crate::verdicts::tell_verdicts;
+use judging::linearizability;
+use judging::sequential_consistency;
 use testers::Testers;
 
-fn read() -> Op {
-    let op = RegisterOp::Read;
-    Op::Register(op)
+// What both judges answer within the budget.
+fn judge(testers: Testers, budget: u64) {
+    tell_verdicts(
+        linearizability::judge(testers.linearizability, budget),
+        sequential_consistency::judge(testers.sequential, budget),
+    );
 }
 
-fn write(v: i32) -> Op {
-    let op = RegisterOp::Write(v);
-    Op::Register(op)
-}
-
-fn read_ok(v: i32) -> Ret {
-    let ret = RegisterRet::ReadOk(v);
-    Ret::Register(ret)
-}
-
-fn feed(testers: Testers, event: u64) -> Answers {
-    let thread = thread_of(event) as u32;
-    let v = value_of(event) as i32;
-    match what_of(event) {
-        What::Read => testers.on_invoke(thread, read()),
-        What::Write => testers.on_invoke(thread, write(v)),
-        What::ReadOk => testers.on_return(thread, read_ok(v)),
-        What::ReadDone => testers.on_invret(thread, read(), read_ok(v)),
-    }
-}
-
-// Fresh testers of the register at 65, fed these events.
-fn fed(events: &[u64]) -> Testers {
-    let begun = Testers::new(Object::register(65));
-    let mut testers = begun.testers;
+// Tells the events, and the verdicts on them within the budget.
+pub fn judged(title: &[u8], start: Start, events: &[u64], budget: u64) {
+    say(title);
     let mut i = 0;
     while i < events.len() {
-        let answers = feed(testers, events[i]);
-        testers = answers.testers;
+        tell_event(events[i]);
+        say(b"; ");
         i += 1;
     }
-    testers
+    judge(fed(start, events), budget);
 }
 
-// Tells the events one by one with what each is answered, and the testers after them. Those before are
-// only fed.
-pub fn run(title: &[u8], before: &[u64], events: &[u64]) {
+// Tells the events one by one with what each is answered, and the verdicts after them, with no end to the
+// budget. Those before are only fed.
+pub fn recorded(title: &[u8], before: &[u64], events: &[u64]) {
+    let register = Start::Register;
     say(title);
-    let mut testers = fed(before);
+    let mut testers = fed(register, before);
     let mut i = 0;
     while i < events.len() {
         let event = events[i];
         i += 1;
-        let answers = feed(testers, event);
+        let answers = feed(testers, register, event);
         tell(event, answers.linearizability, answers.sequential);
         testers = answers.testers;
     }
-    let linearizability = testers.linearizability;
-    let first = linearizability.history;
-    let sequential = testers.sequential;
-    let second = sequential.history;
-    end(first.valid, second.valid);
+    judge(testers, u64::MAX);
 }

@@ -1,4 +1,4 @@
-// What the program writes.
+// The events and what they are answered, in words.
 use crate::events::What;
 use crate::events::thread_of;
 use crate::events::value_of;
@@ -10,25 +10,31 @@ pub fn say(text: &[u8]) {
     io::write_all(STDOUT_FILENO, text);
 }
 
-fn say_number(n: u64) {
+pub fn say_number(n: u64) {
     io::print_decimal(STDOUT_FILENO, n);
 }
 
-fn say_with(text: &[u8], value: u8) {
+fn say_with(text: &[u8], value: u8, rest: &[u8]) {
     say(text);
     say_number(value as u64);
-    say(b")");
+    say(rest);
 }
 
-fn say_event(event: u64) {
+pub fn tell_event(event: u64) {
     let value = value_of(event);
     say(b"T");
     say_number(thread_of(event) as u64);
     match what_of(event) {
         What::Read => say(b" invokes Read"),
-        What::Write => say_with(b" invokes Write(", value),
-        What::ReadOk => say_with(b" returns ReadOk(", value),
-        What::ReadDone => say_with(b" invokes Read and returns ReadOk(", value),
+        What::Write => say_with(b" invokes Write(", value, b")"),
+        What::ReadOk => say_with(b" returns ReadOk(", value, b")"),
+        What::WriteOk => say(b" returns WriteOk"),
+        What::ReadDone => say_with(b" invokes Read and returns ReadOk(", value, b")"),
+        What::WriteDone => say_with(b" invokes Write(", value, b") and returns WriteOk"),
+        What::Push => say_with(b" invokes Push(", value, b")"),
+        What::Pop => say(b" invokes Pop"),
+        What::PushOk => say(b" returns PushOk"),
+        What::PopNothing => say(b" returns PopOk(nothing)"),
     }
 }
 
@@ -47,7 +53,7 @@ fn same(a: Answer, b: Answer) -> bool {
 
 // An event and its answer; both testers' answers where they are not the same.
 pub fn tell(event: u64, linearizability: Answer, sequential: Answer) {
-    say_event(event);
+    tell_event(event);
     say(b": ");
     say_answer(linearizability);
     if same(linearizability, sequential) {
@@ -57,21 +63,4 @@ pub fn tell(event: u64, linearizability: Answer, sequential: Answer) {
     say(b" (sequential consistency: ");
     say_answer(sequential);
     say(b"); ");
-}
-
-// The end of a trace: whether the testers' histories are valid.
-pub fn end(linearizability: bool, sequential: bool) {
-    if linearizability {
-        if sequential {
-            say(b"valid: yes\n");
-            return;
-        }
-        say(b"valid: yes (sequential consistency: no)\n");
-        return;
-    }
-    if sequential {
-        say(b"valid: no (sequential consistency: yes)\n");
-        return;
-    }
-    say(b"valid: no\n");
 }

@@ -1,0 +1,4 @@
+pub mod Noting
+pub mod Indexing
+pub mod Replaying
+pub mod Answering

@@ -1,0 +1,37 @@
+use borrow.Author.Needs.{needs}
+use Rattle.judging.specs.Answers.{isConsistent}
+use Rattle.judging.proofs.answer.is_consistent.Statement.{statement}
+use Rattle.judging.proofs.answer.is_consistent.Tie as tie
+
+enum-told : tie.Need-enum-told
+enum-told c = search needs
+
+enum-told-2 : tie.Need-enum-told-2
+enum-told-2 c = search needs
+
+enum-told-3 : tie.Need-enum-told-3
+enum-told-3 c = search needs
+
+enum-told-4 : tie.Need-enum-told-4
+enum-told-4 c = search needs
+
+returns : tie.Need-returns
+unfolding isConsistent
+returns c = simp (c .enum-told .given .1)
+
+returns-2 : tie.Need-returns-2
+unfolding isConsistent
+returns-2 c = simp (c .enum-told2 .given .1)
+
+returns-3 : tie.Need-returns-3
+unfolding isConsistent
+returns-3 c = simp (c .enum-told3 .given .1)
+
+returns-4 : tie.Need-returns-4
+unfolding isConsistent
+returns-4 c = simp (c .enum-told4 .given .1)
+
+pub is-consistent-spec : {M : Type 1} → statement M
+is-consistent-spec =
+    tie.close
+    (tie.spec enum-told enum-told-2 enum-told-3 enum-told-4 returns returns-2 returns-3 returns-4)

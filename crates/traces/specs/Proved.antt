@@ -1,0 +1,81 @@
+-- All the traces hold, by computation.
+use mathlib.Core.Path.{_≡_, refl, ap}
+use mathlib.Core.Bool.{true, false}
+use mathlib.Core.List.{[], _++_}
+use lib.ListN.{length, replicate}
+use Rattle.history.specs.Events.{Events}
+use Rattle.semantics.specs.Value.{eqZ, sameMaybe}
+use Rattle.semantics.specs.Register.{registerAnswer, registerAfter, sameRegisterRet}
+use Rattle.semantics.specs.WriteOnce.{writes, writeAnswer, onceAnswer, onceAfter, sameOnceRet}
+use Rattle.semantics.specs.Stack.{stackAnswer, stackAfter, sameVecRet, heldValues}
+use Rattle.semantics.specs.Families.{families, answers, after, sameRet}
+use Rattle.semantics.specs.Family.{familyOf, opFamily, retFamily}
+use Rattle.semantics.specs.Refusals.{depthOf}
+use Rattle.semantics.specs.Calls.{newRegister, newOnce, newStack}
+use Rattle.semantics.specs.Meaning.{stateOf}
+use Rattle.recording.specs.Record.{fresh, isPending, flyingBy, flyingFrom, findFlying}
+use Rattle.recording.specs.Shape.{
+  doneBy,
+  countDone,
+  notable,
+  allBelow,
+  outcomeFits,
+  operationFits,
+  operationsFit,
+  noneOf,
+  flyingLast,
+  countsRight,
+  shapeOf,
+  notesFit,
+  notesFitFrom,
+  notesShaped,
+}
+use Rattle.recording.specs.Events.{numberOf, isTaken, madeOf, begunOf, invokeOf, returnOf, sizeOf}
+use Rattle.recording.specs.Testers.{
+  newSequential,
+  sequentialInvoke,
+  sequentialReturn,
+  sequentialLen,
+  newLinearizability,
+  notesWith,
+  linearizabilityInvoke,
+  linearizabilityReturn,
+  linearizabilityLen,
+}
+use Rattle.reading.specs.Reading.{rowsOf, notesOf}
+use Rattle.reading.specs.Models.{Model, sequentialModel, linearizabilityModel}
+use Rattle.reading.specs.Inputs.{feed}
+use Rattle.reading.specs.Meaning.{Means}
+use Rattle.reading.specs.Meant.{sequential-meaning, linearizability-meaning}
+use Rattle.judging.specs.declared.answer.Verdict.the-variants.{Invalid}
+use Rattle.judging.specs.Answers.{withoutOrder, toldOf, judgedOf, judgeOf}
+use Rattle.traces.specs.Traces.{Expectation, Outcome, expected, found, AllHold, trace-10, covers, expect, traces}
+use Rattle.traces.specs.Later.{all-ignored}
+
+module _ (M : Model) where
+  abbrev ten : Events families → Expectation
+  ten later = expect M (trace-10 later) covers Invalid [] 0
+
+  -- the tester of trace 10 before any later event
+  abbrev broken : M .Tester
+  broken = feed M (M .new (trace-10 [] .start)) (trace-10 [] .events)
+
+  -- Trace 10 holds with any later events if it holds with none.
+  ten-holds : Means M → M .Lengths broken → M .shaped broken ≡ true → M .history broken .valid ≡ false → found (ten []) ≡ expected (ten [])
+      → (later : Events families) → found (ten later) ≡ expected (ten later)
+  ten-holds W sized shaped off h later =
+      let i = all-ignored M W broken sized shaped off later in
+      rw (i .0, i .1) (ap (λ (o : Outcome). record { numbers = o .numbers ++ replicate (length later) 1; len = o .len; answer = o .answer }) h)
+
+-- The one claim over the list.
+pub all-hold : (later : Events families) → AllHold (traces later)
+unfolding eqZ sameMaybe registerAnswer registerAfter sameRegisterRet writes writeAnswer onceAnswer onceAfter sameOnceRet stackAnswer stackAfter
+    sameVecRet heldValues answers after sameRet familyOf opFamily retFamily depthOf newRegister newOnce newStack stateOf fresh isPending flyingBy
+    flyingFrom findFlying doneBy countDone notable allBelow outcomeFits operationFits operationsFit noneOf flyingLast countsRight shapeOf notesFit
+    notesFitFrom notesShaped numberOf isTaken madeOf begunOf invokeOf returnOf sizeOf newSequential sequentialInvoke sequentialReturn sequentialLen
+    newLinearizability notesWith linearizabilityInvoke linearizabilityReturn linearizabilityLen rowsOf notesOf withoutOrder toldOf judgedOf judgeOf
+all-hold later =
+    rw (
+      ten-holds sequentialModel sequential-meaning (record { places = refl; counters = refl }) refl refl refl later,
+      ten-holds linearizabilityModel linearizability-meaning (record { places = refl; counters = refl }, refl) refl refl refl later,
+    ) refl
