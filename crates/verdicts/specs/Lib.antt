@@ -12,6 +12,7 @@ pub mod JudgedFresh
 -- That verdicts only move one way.
 pub mod Further
 pub mod OneWay
+pub mod Accepted
 -- That the two searches agree: what remains in the Rust's maps, when an operation is in violation, a level of the search, and all of them.
 pub mod Remaining
 pub mod Violations

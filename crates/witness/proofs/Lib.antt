@@ -1,0 +1,8 @@
+pub mod Zigzag
+pub mod Finding
+pub mod Going
+pub mod Objects
+pub mod Entries
+pub mod Endings
+pub mod Stages
+pub mod Checks

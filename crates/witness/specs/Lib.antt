@@ -1,0 +1,8 @@
+-- What a reader believes: an order as words, and the checker's answer.
+pub mod Words
+pub mod Checking
+-- That it is yes exactly for the legal orders.
+pub mod Replaying
+pub mod Exactly
+-- What the code's functions answer.
+pub mod Playing
