@@ -2,7 +2,6 @@
 
 mod every;
 mod orderly;
-mod testers;
 mod transcript;
 mod wild;
 

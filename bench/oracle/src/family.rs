@@ -30,6 +30,8 @@ pub trait Family: SequentialSpec<Op: Clone + Debug, Ret: Clone + Debug> + Clone 
     fn operations() -> Vec<Self::Op>;
     /// Every return, with each of the values to try.
     fn returns() -> Vec<Self::Ret>;
+    /// A few operations, each with the returns to try for it, for every history of a few events.
+    fn few() -> Vec<(Self::Op, Vec<Self::Ret>)>;
     /// An operation that this object has room for.
     fn random_operation(&self, random: &mut Random) -> Self::Op;
     /// A return of any kind, most often a wrong one.
@@ -39,6 +41,11 @@ pub trait Family: SequentialSpec<Op: Clone + Debug, Ret: Clone + Debug> + Clone 
     fn operation_numbers(op: &Self::Op) -> [i64; 2];
     /// RET RN RV
     fn return_numbers(ret: &Self::Ret) -> [i64; 3];
+    /// OP V RET RN RV
+    fn step_numbers(op: &Self::Op, ret: &Self::Ret) -> Vec<i64> {
+        let (op, ret) = (Self::operation_numbers(op), Self::return_numbers(ret));
+        [&op[..], &ret[..]].concat()
+    }
 }
 
 /// A return's numbers where it may carry a value: how many it carries, and which.

@@ -2,9 +2,11 @@
 
 mod events;
 mod family;
+mod histories;
 mod line;
 mod objects;
 mod random;
+mod testers;
 
 use std::process::ExitCode;
 
@@ -14,8 +16,9 @@ fn main() -> ExitCode {
     match words.as_slice() {
         ["objects"] => print!("{}", objects::list()),
         ["events"] => print!("{}", events::list()),
+        ["histories"] => print!("{}", histories::list()),
         _ => {
-            eprintln!("usage: oracle objects | oracle events");
+            eprintln!("usage: oracle objects | oracle events | oracle histories");
             return ExitCode::FAILURE;
         }
     }

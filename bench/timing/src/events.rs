@@ -3,6 +3,7 @@
 //! Bit 0 says invoke or return, the next three the thread, the rest a value. The operation is Read at 0 and
 //! else Write, the return WriteOk at 0 and else ReadOk.
 
+use crate::random::next;
 use stateright::semantics::register::{RegisterOp, RegisterRet};
 
 /// Threads of a list, and its operations, each an invoke and a return.
@@ -58,12 +59,4 @@ pub fn overlapping(seed: u64) -> Vec<u8> {
 pub fn completed(operations: usize) -> Vec<u8> {
     let pair = |i: usize| [(i % 8 * 2) as u8, (i % 8 * 2 + 17) as u8];
     (0..operations).flat_map(pair).collect()
-}
-
-/// A number of 31 bits (a linear congruential generator).
-fn next(state: &mut u64) -> usize {
-    *state = state
-        .wrapping_mul(6364136223846793005)
-        .wrapping_add(1442695040888963407);
-    (*state >> 33) as usize
 }

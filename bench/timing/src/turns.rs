@@ -3,8 +3,6 @@
 use std::hint::black_box;
 use std::time::Instant;
 
-const TURNS: usize = 201;
-
 /// Nanoseconds a call, where this makes so many.
 pub fn nanoseconds(calls: u64, run: impl FnOnce() -> u64) -> f64 {
     let begun = Instant::now();
@@ -12,10 +10,10 @@ pub fn nanoseconds(calls: u64, run: impl FnOnce() -> u64) -> f64 {
     begun.elapsed().as_nanos() as f64 / calls as f64
 }
 
-/// The least of each one's times over all turns: what else the machine does only adds.
-pub fn least<const N: usize>(mut turn: impl FnMut() -> [f64; N]) -> [f64; N] {
+/// The least of each one's times over so many turns: what else the machine does only adds.
+pub fn least<const N: usize>(turns: usize, mut turn: impl FnMut() -> [f64; N]) -> [f64; N] {
     let mut least = [f64::INFINITY; N];
-    for _ in 0..TURNS {
+    for _ in 0..turns {
         let times = turn();
         least = std::array::from_fn(|i| least[i].min(times[i]));
     }

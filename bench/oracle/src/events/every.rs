@@ -1,9 +1,9 @@
 //! Every order of a few events of two threads.
 
-use super::testers::THREADS;
 use super::transcript::{Kind, Transcript, KINDS};
 use crate::family::Family;
 use crate::random::Random;
+use crate::testers::THREADS;
 
 const EVENTS: u32 = 3;
 

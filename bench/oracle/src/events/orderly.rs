@@ -1,11 +1,11 @@
 //! Orderly lives: a thread that is busy returns, one that is not invokes, up to a number of operations.
 //! Then some end in an event that is refused, and in any events after it.
 
-use super::testers::{OPERATIONS, THREADS};
 use super::transcript::{Kind, Transcript};
 use super::wild;
 use crate::family::Family;
 use crate::random::Random;
+use crate::testers::{OPERATIONS, THREADS};
 
 /// The refused event that ends the order, if any: an invoke or both calls on a busy thread, a return of
 /// one that is not.

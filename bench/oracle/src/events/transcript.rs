@@ -1,9 +1,9 @@
 //! Fresh testers fed event by event, and each event with its outcome written as a line of numbers.
 
-use super::testers::{Testers, OPERATIONS, THREADS};
 use crate::family::Family;
 use crate::line;
 use crate::random::Random;
+use crate::testers::{Testers, OPERATIONS, THREADS};
 
 const START: i64 = 0;
 

@@ -1,9 +1,9 @@
 //! Any events in any order, on a few threads or on all.
 
-use super::testers::THREADS;
 use super::transcript::{Transcript, KINDS};
 use crate::family::Family;
 use crate::random::Random;
+use crate::testers::THREADS;
 
 const COUNT: usize = 300;
 

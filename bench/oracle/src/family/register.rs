@@ -37,6 +37,16 @@ impl Family for Register<i32> {
             .collect()
     }
 
+    fn few() -> Vec<(Self::Op, Vec<Self::Ret>)> {
+        vec![
+            (RegisterOp::Write(1), vec![RegisterRet::WriteOk]),
+            (
+                RegisterOp::Read,
+                vec![RegisterRet::ReadOk(0), RegisterRet::ReadOk(1)],
+            ),
+        ]
+    }
+
     fn random_operation(&self, random: &mut Random) -> Self::Op {
         match random.below(2) {
             0 => RegisterOp::Write(random.value()),

@@ -52,6 +52,17 @@ impl Family for Vec<i32> {
             .collect()
     }
 
+    fn few() -> Vec<(Self::Op, Vec<Self::Ret>)> {
+        vec![
+            (VecOp::Push(1), vec![VecRet::PushOk]),
+            (
+                VecOp::Pop,
+                vec![VecRet::PopOk(None), VecRet::PopOk(Some(1))],
+            ),
+            (VecOp::Len, vec![VecRet::LenOk(0), VecRet::LenOk(1)]),
+        ]
+    }
+
     fn random_operation(&self, random: &mut Random) -> Self::Op {
         match random.below(5) {
             0 | 1 if self.len() < ROOM => VecOp::Push(random.value()),

@@ -43,6 +43,16 @@ impl Family for WORegister<i32> {
         .collect()
     }
 
+    fn few() -> Vec<(Self::Op, Vec<Self::Ret>)> {
+        let written = vec![WORegisterRet::WriteOk, WORegisterRet::WriteFail];
+        let read = vec![WORegisterRet::ReadOk(None), WORegisterRet::ReadOk(Some(1))];
+        vec![
+            (WORegisterOp::Write(1), written.clone()),
+            (WORegisterOp::Write(2), written),
+            (WORegisterOp::Read, read),
+        ]
+    }
+
     fn random_operation(&self, random: &mut Random) -> Self::Op {
         match random.below(2) {
             0 => WORegisterOp::Write(random.value()),

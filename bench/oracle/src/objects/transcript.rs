@@ -33,18 +33,14 @@ impl<F: Family> Transcript<F> {
 
     pub fn step(&mut self, op: F::Op, ret: F::Ret) {
         let mut line = vec![STEP];
-        line.extend(step_numbers::<F>(&op, &ret));
+        line.extend(F::step_numbers(&op, &ret));
         line.push(self.object.is_valid_step(&op, &ret).into());
         self.write(line);
     }
 
     pub fn history(&mut self, steps: Vec<(F::Op, F::Ret)>) {
         let mut line = vec![HISTORY, line::count(steps.len())];
-        line.extend(
-            steps
-                .iter()
-                .flat_map(|(op, ret)| step_numbers::<F>(op, ret)),
-        );
+        line.extend(steps.iter().flat_map(|(op, ret)| F::step_numbers(op, ret)));
         line.push(self.object.is_valid_history(steps).into());
         self.write(line);
     }
@@ -65,9 +61,4 @@ impl<F: Family> Transcript<F> {
         numbers.extend(line::counted(&held));
         self.text += &line::of(&numbers);
     }
-}
-
-/// OP V RET RN RV
-fn step_numbers<F: Family>(op: &F::Op, ret: &F::Ret) -> Vec<i64> {
-    [&F::operation_numbers(op)[..], &F::return_numbers(ret)[..]].concat()
 }

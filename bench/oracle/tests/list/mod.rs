@@ -4,7 +4,7 @@ use std::process::Command;
 
 const DATA: &str = concat!(env!("CARGO_MANIFEST_DIR"), "/../../crates/replay/data/");
 
-fn text(name: &str) -> String {
+pub fn text(name: &str) -> String {
     std::fs::read_to_string(format!("{DATA}{name}.txt")).expect("the list")
 }
 
