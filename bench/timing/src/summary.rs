@@ -1,0 +1,66 @@
+//! What was measured of many histories, in one line.
+
+/// One history: its verdict, the attempts, and the nanoseconds of each side.
+pub struct Measured {
+    pub has_order: bool,
+    pub attempts: f64,
+    pub port: f64,
+    pub rust: f64,
+}
+
+/// Sums over the histories, and the median of how many times as fast the port is on each.
+pub struct Summary {
+    count: usize,
+    orders: usize,
+    attempts: f64,
+    port: f64,
+    rust: f64,
+    median: f64,
+}
+
+impl Summary {
+    pub fn of(histories: Vec<Measured>) -> Self {
+        let sum = |part: fn(&Measured) -> f64| histories.iter().map(part).sum();
+        let mut ratios: Vec<f64> = histories.iter().map(|one| one.rust / one.port).collect();
+        ratios.sort_by(f64::total_cmp);
+        Summary {
+            count: histories.len(),
+            orders: histories.iter().filter(|one| one.has_order).count(),
+            attempts: sum(|one| one.attempts),
+            port: sum(|one| one.port),
+            rust: sum(|one| one.rust),
+            median: ratios[ratios.len() / 2],
+        }
+    }
+
+    /// The times of all histories together, and how the two sides compare.
+    pub fn sums(&self) -> String {
+        format!(
+            "port {:.2} ms, Rust {:.2} ms, {:.1} times as fast (median of the histories {:.1}); \
+             {:.0} attempts a history, of {:.1} ns; {} have an order",
+            self.port / 1e6,
+            self.rust / 1e6,
+            self.rust / self.port,
+            self.median,
+            self.mean(self.attempts),
+            self.port / self.attempts,
+            self.orders,
+        )
+    }
+
+    /// The times of a history.
+    pub fn means(&self) -> String {
+        format!(
+            "{} judged, {:.0} attempts each, port {:.0} ns, Rust {:.0} ns, {:.1} times as fast",
+            self.count,
+            self.mean(self.attempts),
+            self.mean(self.port),
+            self.mean(self.rust),
+            self.rust / self.port,
+        )
+    }
+
+    fn mean(&self, sum: f64) -> f64 {
+        sum / self.count as f64
+    }
+}

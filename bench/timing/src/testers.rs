@@ -1,0 +1,61 @@
+//! The Rust's two testers, fed a history.
+
+use crate::family::Family;
+use crate::histories::{Event, History};
+use stateright::semantics::{
+    ConsistencyTester, LinearizabilityTester, SequentialConsistencyTester,
+};
+use std::fmt::{Display, Formatter};
+use std::hint::black_box;
+
+#[derive(Clone, Copy)]
+pub enum Model {
+    Sequential = 0,
+    Linearizable = 1,
+}
+
+impl Display for Model {
+    fn fmt(&self, f: &mut Formatter) -> std::fmt::Result {
+        f.write_str(match self {
+            Model::Sequential => "sequential",
+            Model::Linearizable => "linearizable",
+        })
+    }
+}
+
+pub enum Tester<F: Family> {
+    Sequential(SequentialConsistencyTester<u32, F>),
+    Linearizable(LinearizabilityTester<u32, F>),
+}
+
+impl<F: Family> Tester<F> {
+    pub fn fed(model: Model, history: &History<F>) -> Self {
+        let object = F::fresh();
+        match model {
+            Model::Sequential => {
+                Tester::Sequential(feed(SequentialConsistencyTester::new(object), history))
+            }
+            Model::Linearizable => {
+                Tester::Linearizable(feed(LinearizabilityTester::new(object), history))
+            }
+        }
+    }
+
+    pub fn has_order(&self) -> bool {
+        match self {
+            Tester::Sequential(tester) => black_box(tester.serialized_history()).is_some(),
+            Tester::Linearizable(tester) => black_box(tester.serialized_history()).is_some(),
+        }
+    }
+}
+
+fn feed<F: Family, T: ConsistencyTester<u32, F>>(mut tester: T, history: &History<F>) -> T {
+    for event in &history.0 {
+        let recorded = match event {
+            Event::Invoke(thread, op) => tester.on_invoke(*thread, op.clone()).is_ok(),
+            Event::Return(thread, ret) => tester.on_return(*thread, ret.clone()).is_ok(),
+        };
+        assert!(recorded, "a history that is recorded throughout");
+    }
+    tester
+}
