@@ -11,14 +11,21 @@ use semantics::value::Maybe;
 use semantics::vec::VecRet;
 use semantics::write_once_register::WORegisterRet;
 
+// A value as a natural number; 0 where it is below zero.
+fn natural(v: i32) -> u32 {
+    if v < 0 {
+        return 0;
+    }
+    v as u32
+}
+
 fn say_value(v: i32) {
     if v < 0 {
-        let past = !v;
         say(b"-");
-        say_number(past as u64 + 1);
+        say_number(natural(!v) as u64 + 1);
         return;
     }
-    say_number(v as u64);
+    say_number(natural(v) as u64);
 }
 
 fn say_maybe(m: Maybe) {

@@ -1,18 +1,18 @@
--- `wall::running::fed` is safe and ends. The measure is the number of events left.
+-- `wall::calls::fed` is safe and ends. The measure is the number of events left.
 use Prim.Native.Nat.{_-_}
 use lib.ListN.{length}
 use borrow.Author.Needs.{needs}
-use Rattle.wall.proofs.running.fed.Statement.{statement}
-use Rattle.wall.proofs.running.fed.Tie as tie
+use Rattle.wall.proofs.calls.fed.Statement.{statement}
+use Rattle.wall.proofs.calls.fed.Tie as tie
 
 abbrev Inv-loop : tie.InvT-loop
-Inv-loop events testers₀ i₀ testers i = Unit
+Inv-loop start events testers₀ i₀ testers i = Unit
 
 abbrev μ-loop : tie.MeasureT-loop
-μ-loop events testers₀ i₀ testers i = length events - i
+μ-loop start events testers₀ i₀ testers i = length events - i
 
-register-requires : tie.Need-register-requires Inv-loop μ-loop
-register-requires c κs = search needs
+object-requires : tie.Need-object-requires Inv-loop μ-loop
+object-requires c κs = search needs
 
 new-requires : tie.Need-new-requires Inv-loop μ-loop
 new-requires c κs = search needs
@@ -47,7 +47,7 @@ fed-spec =
     (tie.spec
     Inv-loop
     μ-loop
-    register-requires
+    object-requires
     new-requires
     loop-holds
     mul-feed

@@ -1,15 +1,15 @@
--- `wall::running::run` is safe and ends. The measure is the number of events left.
+-- `wall::running::recorded` is safe and ends. The measure is the number of events left.
 use Prim.Native.Nat.{_-_}
 use lib.ListN.{length}
 use borrow.Author.Needs.{needs}
-use Rattle.wall.proofs.running.run.Statement.{statement}
-use Rattle.wall.proofs.running.run.Tie as tie
+use Rattle.wall.proofs.running.recorded.Statement.{statement}
+use Rattle.wall.proofs.running.recorded.Tie as tie
 
 abbrev Inv-loop : tie.InvT-loop
-Inv-loop title before events testers₀ i₀ testers i = Unit
+Inv-loop title before events register testers₀ i₀ testers i = Unit
 
 abbrev μ-loop : tie.MeasureT-loop
-μ-loop title before events testers₀ i₀ testers i = length events - i
+μ-loop title before events register testers₀ i₀ testers i = length events - i
 
 say-requires : tie.Need-say-requires Inv-loop μ-loop
 say-requires c κs = search needs
@@ -41,14 +41,14 @@ loop-less c = search needs
 loop-again : tie.Need-loop-again Inv-loop μ-loop
 loop-again c = search needs
 
-end-requires : tie.Need-end-requires Inv-loop μ-loop
-end-requires c κs = search needs
+judge-requires : tie.Need-judge-requires Inv-loop μ-loop
+judge-requires c κs = search needs
 
 returns : tie.Need-returns Inv-loop μ-loop
 returns c = search needs
 
-pub run-spec : {M : Type 1} → statement M
-run-spec =
+pub recorded-spec : {M : Type 1} → statement M
+recorded-spec =
     tie.close
     (tie.spec
     Inv-loop
@@ -63,5 +63,5 @@ run-spec =
     tell-requires
     loop-less
     loop-again
-    end-requires
+    judge-requires
     returns)
