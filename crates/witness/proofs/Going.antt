@@ -8,6 +8,7 @@ use lib.ListN.{length, getD, drop, length-drop, drop-of-length-le}
 use lib.Seq.{drop-cons}
 use Rattle.recording.specs.declared.consistency_tester.History.{History}
 use Rattle.witness.specs.declared.replay.Stage.{Stage}
+use Rattle.witness.specs.Words.{placeWords}
 use Rattle.witness.specs.Playing.{reachesOf, stageAfter, playFrom, begun, playOf}
 
 abbrev pub Going : List ℕ → History → List ℕ → Stage → ℕ → Type 0
@@ -19,7 +20,7 @@ going-start notes h ws = (omega arith, refl)
 
 module _ (notes : List ℕ) (h : History) (ws : List ℕ) (s : Stage) (i : ℕ) (w : Going notes h ws s i) where
   -- too few words for a place
-  pub going-short : i < length ws → length ws - i < 4 → false ≡ playOf notes h ws
+  pub going-short : i < length ws → length ws - i < placeWords → false ≡ playOf notes h ws
   unfolding playFrom
   going-short l m = sym (go (drop i ws) (length-drop i ws)) ∙ w .1
     where
@@ -30,14 +31,14 @@ module _ (notes : List ℕ) (h : History) (ws : List ℕ) (s : Stage) (i : ℕ) 
       go (t ∷ n ∷ c ∷ []) e = refl
       go (t ∷ n ∷ c ∷ v ∷ vs) e = absurd (omega arith)
 
-  module _ (l : 4 ≤ length ws - i) (s' : Stage)
+  module _ (l : placeWords ≤ length ws - i) (s' : Stage)
       (e : s' ≡ stageAfter notes h s (getD ws i 0) (getD ws (i + 1) 0 ∷ getD ws (i + 2) 0 ∷ getD ws (i + 3) 0 ∷ [])) where
-    four : drop i ws ≡ getD ws i 0 ∷ getD ws (i + 1) 0 ∷ getD ws (i + 2) 0 ∷ getD ws (i + 3) 0 ∷ drop (i + 4) ws
+    four : drop i ws ≡ getD ws i 0 ∷ getD ws (i + 1) 0 ∷ getD ws (i + 2) 0 ∷ getD ws (i + 3) 0 ∷ drop (i + placeWords) ws
     four =
         let b : suc i ≡ i + 1 = omega arith in
         let c : suc (i + 1) ≡ i + 2 = omega arith in
         let d : suc (i + 2) ≡ i + 3 = omega arith in
-        let f : suc (i + 3) ≡ i + 4 = omega arith in
+        let f : suc (i + 3) ≡ i + placeWords = omega arith in
         rw (
           drop-cons ws i 0 (omega arith),
           b,
@@ -49,10 +50,10 @@ module _ (notes : List ℕ) (h : History) (ws : List ℕ) (s : Stage) (i : ℕ) 
           f,
         )
 
-    pub going-on : s' .ok ≡ true → Going notes h ws s' (i + 4)
+    pub going-on : s' .ok ≡ true → Going notes h ws s' (i + placeWords)
     unfolding playFrom
     going-on y =
-        let a : playFrom notes h s (drop i ws) ≡ playFrom notes h s' (drop (i + 4) ws) = rw (four, sym e, y) in
+        let a : playFrom notes h s (drop i ws) ≡ playFrom notes h s' (drop (i + placeWords) ws) = rw (four, sym e, y) in
         (omega arith, sym a ∙ w .1)
 
     pub going-wrong : s' .ok ≡ false → false ≡ playOf notes h ws

@@ -1,6 +1,8 @@
 -- What a reader believes: an order as words, and the checker's answer.
 pub mod Words
 pub mod Checking
+-- That words tell the return within a family.
+pub mod Telling
 -- That it is yes exactly for the legal orders.
 pub mod Replaying
 pub mod Exactly

@@ -15,6 +15,10 @@ use Rattle.semantics.specs.declared.write_once_register.WORegisterRet.the-varia
 use Rattle.semantics.specs.declared.vec.VecRet.{VecRet}
 use Rattle.semantics.specs.declared.vec.VecRet.the-variants.{PushOk, PopOk, LenOk}
 
+-- A place takes four words.
+abbrev pub placeWords : ℕ
+placeWords = 4
+
 -- A signed value v as a corpus file sends it: 2v when v ≥ 0 and -2v - 1 when negative. (negsuc n is -(n + 1).)
 unfoldable pub zigzag : ℤ → ℕ
 zigzag (pos n) = 2 * n
