@@ -5,11 +5,12 @@ use crate::fields::first;
 use crate::fields::from;
 use crate::numbers::Reading;
 use crate::objects;
+use crate::proposals;
 use crate::sequence;
 use crate::sequence::Sequence;
 use crate::tally::Line;
+use crate::verdicts;
 use crate::verdicts::Model;
-use crate::verdicts::compared;
 use crate::verdicts::model_at;
 use crate::which::Call;
 use crate::which::Lead;
@@ -17,6 +18,7 @@ use crate::which::List;
 use crate::which::lead_at;
 use semantics::Kind;
 use semantics::Object;
+use testers::Testers;
 
 // The bare object; or the testers' initial one, and the events so far.
 pub struct Live {
@@ -95,6 +97,7 @@ fn start(list: List, begun: Comparison) -> Line {
         List::Objects => Line::Start,
         List::Events => taken(begun),
         List::Histories => taken(begun),
+        List::Orders => taken(begun),
     }
 }
 
@@ -127,12 +130,13 @@ fn answered(list: List, live: Live, call: Call, fields: &[u64]) -> Lived {
             let live = Live { object, sequence };
             Lived { line, live }
         }
-        List::Histories => recorded(live, call, fields),
+        List::Histories => recorded(list, live, call, fields),
+        List::Orders => recorded(list, live, call, fields),
     }
 }
 
-// An event, which is fed, or the verdict on those so far.
-fn recorded(live: Live, call: Call, fields: &[u64]) -> Lived {
+// An event, which is fed, or an answer about those so far.
+fn recorded(list: List, live: Live, call: Call, fields: &[u64]) -> Lived {
     let object = live.object;
     let kind = object.kind;
     let sequence = live.sequence;
@@ -141,10 +145,19 @@ fn recorded(live: Live, call: Call, fields: &[u64]) -> Lived {
         Call::Two => fed(live, call, fields),
         Call::Three => {
             let testers = sequence.testers;
-            let comparison = compared(testers, kind, fields);
-            let line = verdict(kind, model_at(fields), comparison);
+            let comparison = compared(list, testers, kind, fields);
+            let line = by_model(kind, model_at(fields), comparison);
             Lived { line, live }
         }
+    }
+}
+
+fn compared(list: List, testers: Testers, kind: Kind, fields: &[u64]) -> Comparison {
+    match list {
+        List::Objects => Comparison::Unreadable,
+        List::Events => Comparison::Unreadable,
+        List::Histories => verdicts::compared(testers, kind, fields),
+        List::Orders => proposals::compared(testers, fields),
     }
 }
 
@@ -165,7 +178,7 @@ fn fed(live: Live, call: Call, fields: &[u64]) -> Lived {
 }
 
 // The first call stands for sequential consistency, the second for linearizability.
-fn verdict(kind: Kind, model: Model, comparison: Comparison) -> Line {
+fn by_model(kind: Kind, model: Model, comparison: Comparison) -> Line {
     match model {
         Model::Sequential => answer(kind, Call::One, comparison),
         Model::Linearizable => answer(kind, Call::Two, comparison),

@@ -1,6 +1,6 @@
-// Replays three lists of what stateright 0.31.0 answers, and tells how many of the answers agree: those of
-// bare objects, those of both testers to the events that they are fed, and their verdicts on histories. The
-// lists stand in data/ and are made by the oracle of bench/, whose README describes their lines.
+// Replays lists of answers, and tells how many of them the port agrees with: what stateright 0.31.0 answers
+// of bare objects, of events fed to both testers and of whole histories, and which proposed orders are legal.
+// The lists stand in data/; bench/ makes them, and its README describes their lines.
 mod calls;
 mod codes;
 mod comparison;
@@ -10,6 +10,7 @@ mod lines;
 mod list;
 mod numbers;
 mod objects;
+mod proposals;
 mod returns;
 mod sequence;
 mod tally;
@@ -39,4 +40,5 @@ fn main() {
     replay(List::Objects, b"objects.txt");
     replay(List::Events, b"events.txt");
     replay(List::Histories, b"histories.txt");
+    replay(List::Orders, b"orders.txt");
 }

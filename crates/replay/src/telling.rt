@@ -56,11 +56,16 @@ fn say_call(list: List, call: Call) {
             Call::Two => say(b" on_return"),
             Call::Three => say(b" on_invret"),
         },
-        List::Histories => match call {
-            Call::One => say(b" sequential consistency"),
-            Call::Two => say(b" linearizability"),
-            Call::Three => say(b" other"),
-        },
+        List::Histories => say_model(call),
+        List::Orders => say_model(call),
+    }
+}
+
+fn say_model(call: Call) {
+    match call {
+        Call::One => say(b" sequential consistency"),
+        Call::Two => say(b" linearizability"),
+        Call::Three => say(b" other"),
     }
 }
 
@@ -69,6 +74,7 @@ fn say_starts(list: List) {
         List::Objects => say(b" objects, "),
         List::Events => say(b" sequences to both testers, "),
         List::Histories => say(b" histories under three budgets, "),
+        List::Orders => say(b" histories with proposed orders, "),
     }
 }
 

@@ -147,15 +147,14 @@ fn is_without_order(answer: Answer, verdict: u8, attempts: u64) -> bool {
 fn is_order(answer: Answer, attempts: u64, kind: Kind, order: &[u64]) -> bool {
     let length = natural(order, 0);
     if is_told(answer, ORDER, attempts, length) {
-        let mut at = 1;
         let mut i = 0;
         while i < OPERATIONS {
             if length <= i as u64 {
                 return is_empty_from(answer, i);
             }
             let placed = answer.order[i];
+            let at = 1 + 6 * i;
             if is_place(placed, kind, from(order, at)) {
-                at += 6;
                 i += 1;
             } else {
                 return false;

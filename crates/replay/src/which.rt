@@ -5,6 +5,7 @@ pub enum List {
     Objects,
     Events,
     Histories,
+    Orders,
 }
 
 // Each list has three calls, by their numbers.
