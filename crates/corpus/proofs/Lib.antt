@@ -1,0 +1,6 @@
+pub mod Groups
+pub mod Signed
+pub mod Fields
+pub mod Answered
+pub mod Starting
+pub mod Loading

@@ -1,0 +1,13 @@
+pub mod Refusals
+pub mod Reader
+pub mod Format
+pub mod Answers
+pub mod SameBytes
+pub mod Groups
+pub mod Taking
+pub mod Lengths
+pub mod Sums
+pub mod Loaded
+pub mod Files
+pub mod Starts
+pub mod Traces

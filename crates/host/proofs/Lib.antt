@@ -1,0 +1,3 @@
+pub mod Laying
+pub mod Threading
+pub mod Calling

@@ -1,0 +1,127 @@
+-- What the number that loading gives says of the tester that is loaded.
+use Prim.Native.Nat.{ℕ}
+use mathlib.Core.Path.{_≡_, refl, ap, _∙_, subst}
+use mathlib.Core.Logic.{_≢_, _⊎_, ⊎-elim}
+use mathlib.Core.Bool.{Bool, true, false, _&&_, not}
+use mathlib.Core.List.{List, [], _∷_}
+use native.Mathlib.Omega.{arith}
+use lib.ListN.{drop}
+use Rattle.history.specs.Lists.{not-both}
+use Rattle.history.specs.Events.{Events}
+use Rattle.semantics.specs.Families.{families}
+use Rattle.semantics.specs.declared.Object.{Object}
+use Rattle.recording.specs.declared.consistency_tester.Recorded.{Recorded}
+use Rattle.recording.specs.declared.consistency_tester.Recorded.the-variants.{
+  Taken,
+  AlreadyInvalid,
+  NoSuchThread,
+  OtherFamily,
+  InFlight,
+  NothingInFlight,
+  Full,
+  OutOfShape,
+}
+use Rattle.recording.specs.Events.{numberOf as recordedNumber}
+use Rattle.reading.specs.Models.{Model}
+use Rattle.reading.specs.Lawful.{Lawful}
+use Rattle.reading.specs.Turns.{good-shaped}
+use Rattle.reading.specs.Reaching.{good-new}
+use Rattle.reading.specs.Inputs.{breaks, broken, give, feed, drawn}
+use Rattle.reading.specs.Feeding.{step-of, good-feed, invalid-exactly}
+use Rattle.judging.specs.declared.answer.Verdict.the-variants.{Invalid}
+use Rattle.judging.specs.Answers.{judgeOf}
+use Rattle.corpus.specs.declared.refusal.Refusal.{Refusal}
+use Rattle.corpus.specs.declared.refusal.Refusal.the-variants.{TooLong, Unopened, Cut, TooBig, Unknown, StartTooDeep}
+use Rattle.corpus.specs.Refusals.{numberOf}
+use Rattle.corpus.specs.Reader.{Read, got, refused}
+use Rattle.corpus.specs.Format.{header, Load, loadOf}
+use Rattle.corpus.specs.Loaded.{AllRecorded, Outcome, ended, unread, unrecorded, loaded, not-loaded}
+use Rattle.corpus.specs.Files.{number-zero, whole-loads}
+use Rattle.host.specs.Ordered.{ordered, sound-verdict, invalid-verdict}
+
+-- 4 or 5, by number
+abbrev pub Breaking : ℕ → Type 0
+Breaking n = (n ≡ 4) ⊎ (n ≡ 5)
+
+-- no refusal of a file is
+file-refusal : (why : Refusal) → Breaking (numberOf why) → ⊥
+unfolding numberOf
+file-refusal TooLong = ⊎-elim (λ e. omega arith) (λ e. omega arith)
+file-refusal Unopened = ⊎-elim (λ e. omega arith) (λ e. omega arith)
+file-refusal Cut = ⊎-elim (λ e. omega arith) (λ e. omega arith)
+file-refusal TooBig = ⊎-elim (λ e. omega arith) (λ e. omega arith)
+file-refusal Unknown = ⊎-elim (λ e. omega arith) (λ e. omega arith)
+file-refusal StartTooDeep = ⊎-elim (λ e. omega arith) (λ e. omega arith)
+
+-- and a refusal of recording breaks the history if it is
+recorded-breaks : (r : Recorded) → Breaking (recordedNumber r) → breaks r ≡ true
+unfolding recordedNumber
+recorded-breaks Taken = ⊎-elim (λ e. absurd (omega arith)) (λ e. absurd (omega arith))
+recorded-breaks AlreadyInvalid = ⊎-elim (λ e. absurd (omega arith)) (λ e. absurd (omega arith))
+recorded-breaks NoSuchThread = ⊎-elim (λ e. absurd (omega arith)) (λ e. absurd (omega arith))
+recorded-breaks OtherFamily = ⊎-elim (λ e. absurd (omega arith)) (λ e. absurd (omega arith))
+recorded-breaks InFlight = λ h. refl
+recorded-breaks NothingInFlight = λ h. refl
+recorded-breaks Full = ⊎-elim (λ e. absurd (omega arith)) (λ e. absurd (omega arith))
+recorded-breaks OutOfShape = ⊎-elim (λ e. absurd (omega arith)) (λ e. absurd (omega arith))
+
+zero-keeps : (r : Recorded) → recordedNumber r ≡ 0 → breaks r ≡ false
+unfolding recordedNumber
+zero-keeps Taken e = refl
+zero-keeps AlreadyInvalid e = refl
+zero-keeps NoSuchThread e = refl
+zero-keeps OtherFamily e = refl
+zero-keeps InFlight e = absurd (omega arith)
+zero-keeps NothingInFlight e = absurd (omega arith)
+zero-keeps Full e = refl
+zero-keeps OutOfShape e = refl
+
+off : (b : Bool) → b && false ≡ false
+off true = refl
+off false = refl
+
+module _ (M : Model) where
+  unbroken : (l : Events families) (t : M .Tester) → AllRecorded M t l → broken (drawn M t l) ≡ false
+  unbroken [] t all = refl
+  unbroken (v ∷ l) t all = rw (zero-keeps (give M t v .0) (all .0)) (unbroken l (give M t v .1) (all .1))
+
+  module _ (L : Lawful M) (file : List ℕ) (b : ℕ) where
+    -- Without refusal the judge never says Invalid.
+    pub sound-loaded : loadOf M file .number ≡ 0 → judgeOf M (loadOf M file .tester) b .verdict ≢ Invalid
+    sound-loaded z =
+        let w = number-zero M file .0 z in
+        let fresh = M .new (w .start) in
+        let fed = feed M fresh (w .events) in
+        let e : loadOf M file .tester ≡ fed = ap (λ (x : Load M). x .tester) (whole-loads M file w) in
+        let keeps = unbroken (w .events) fresh (w .recorded) in
+        rw e
+        (sound-verdict M fed (ordered M fed b) (good-shaped M L fed (good-feed M L (w .events) fresh (good-new M L (w .start))))
+        (not-off (M .history fed .valid) (λ f. not-both (invalid-exactly M L (w .start) (w .events) .0 f) keeps)))
+      where
+        not-off : (x : Bool) → (x ≡ false → ⊥) → x ≡ true
+        not-off true f = refl
+        not-off false f = absurd (f refl)
+
+    -- After refusals 4 and 5 it says Invalid.
+    pub broken-loaded : Breaking (loadOf M file .number) → judgeOf M (loadOf M file .tester) b .verdict ≡ Invalid
+    broken-loaded h = by-header (header file) refl
+      where
+        at-file : (why : Refusal) → loadOf M file .number ≡ numberOf why → judgeOf M (loadOf M file .tester) b .verdict ≡ Invalid
+        at-file why e = absurd (file-refusal why (subst Breaking e h))
+
+        by-outcome : (o : Object) (n : ℕ) → Outcome M (o .kind) (drop n file) n (M .new o) (loadOf M file)
+            → judgeOf M (loadOf M file .tester) b .verdict ≡ Invalid
+        by-outcome o n (ended l m sp all q r) = absurd (⊎-elim (λ e. omega (arith, ap (λ (x : Load M). x .number) r)) (λ e. omega (arith, ap (λ (x : Load M). x .number) r)) h)
+        by-outcome o n (unread l m sp all i why q r) = at-file why (ap (λ (x : Load M). x .number) r)
+        by-outcome o n (unrecorded l m sp all i v used q d r) =
+            let s = feed M (M .new o) l in
+            let t = give M s v in
+            let k : breaks (t .0) ≡ true = recorded-breaks (t .0) (subst Breaking (ap (λ (x : Load M). x .number) r) h) in
+            let w : M .history (t .1) .valid ≡ false =
+            step-of M L s (good-feed M L l (M .new o) (good-new M L o)) v .valid ∙ ap (λ (x : Bool). M .history s .valid && not x) k ∙ off (M .history s .valid) in
+            let e : loadOf M file .tester ≡ t .1 = ap (λ (x : Load M). x .tester) r in
+            rw e (invalid-verdict M (t .1) (ordered M (t .1) b) w)
+
+        by-header : (x : Read Object) → header file ≡ x → judgeOf M (loadOf M file .tester) b .verdict ≡ Invalid
+        by-header (got o n) e = by-outcome o n (loaded M file o n e)
+        by-header (refused why) e = at-file why (ap (λ (x : Load M). x .number) (not-loaded M file why e))
