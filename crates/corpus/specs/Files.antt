@@ -35,7 +35,7 @@ refusal-number StartTooDeep e = omega arith
 
 -- one event more at the end
 
-spells-more : (k : Kind) (l : Events families) (s : List ℕ) (n : ℕ) (v : Event families) (used : ℕ) → Spells k s l n → event k (drop n s) ≡ got v used
+pub spells-more : (k : Kind) (l : Events families) (s : List ℕ) (n : ℕ) (v : Event families) (used : ℕ) → Spells k s l n → event k (drop n s) ≡ got v used
     → Spells k s (l ++ (v ∷ [])) (n + used)
 spells-more k [] s n v used sp e =
     let b : n + used - used ≡ 0 = omega arith in

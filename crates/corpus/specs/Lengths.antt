@@ -61,130 +61,133 @@ use Rattle.corpus.specs.Format.{
   event,
 }
 use Rattle.corpus.specs.SameBytes.{same-true}
-use Rattle.corpus.specs.Taking.{Takes, Field, fewer, from-takes, give-field, refuse-field, pick-field, then-field, number-field}
+use Rattle.corpus.specs.Taking.{Takes, Field, from-takes, Built, one-number, no-bytes, never, either, next-to, fewer, built-field}
 
-made-field : {A B : Type 0} (n : ℕ) (f : Reader A) (h : A → B) → Field n f → Field n (f then λ a. give (h a))
-made-field n f h F = rw (add-zero n) at (then-field n 0 f (λ a. give (h a)) F (λ a. give-field (h a)))
+made-built : {A B : Type 0} (n : ℕ) (f : Reader A) (h : A → B) → Built n f → Built n (f then λ a. give (h a))
+made-built n f h F = rw (add-zero n) at (next-to n 0 f (λ a. give (h a)) F (λ a. no-bytes (h a)))
 
-value-field : Field 1 value
+value-built : Built 1 value
 unfolding value
-value-field = made-field 1 number signed number-field
+value-built = made-built 1 number signed one-number
 
-flagged-field : (n : ℕ) → Field 0 (flagged n)
+flagged-built : (n : ℕ) → Built 0 (flagged n)
 unfolding flagged
-flagged-field n =
-    pick-field 0 (eqb n 0) (give Nothing) _ (give-field Nothing)
-    (pick-field 0 (eqb n 1) (value then λ v. give (Value v)) (refuse Unknown)
-    (fewer (value then λ v. give (Value v)) 1 (made-field 1 value Value value-field) 0 (omega arith))
-    (refuse-field Maybe Unknown 0))
+flagged-built n =
+    either 0 (eqb n 0) (give Nothing) _ (no-bytes Nothing)
+    (either 0 (eqb n 1) (value then λ v. give (Value v)) (refuse Unknown)
+    (fewer (value then λ v. give (Value v)) 1 (made-built 1 value Value value-built) 0 (omega arith))
+    (never Maybe Unknown 0))
 
-maybe-field : Field 1 maybe
+maybe-built : Built 1 maybe
 unfolding maybe
-maybe-field = then-field 1 0 number flagged number-field flagged-field
+maybe-built = next-to 1 0 number flagged one-number flagged-built
 
 -- what follows the number of an operation or a return may be nothing
 
-some-field : {A B : Type 0} (f : Reader A) (h : A → B) → Field 1 f → Field 0 (f then λ a. give (h a))
-some-field f h F = fewer (f then λ a. give (h a)) 1 (made-field 1 f h F) 0 (omega arith)
+some-built : {A B : Type 0} (f : Reader A) (h : A → B) → Built 1 f → Built 0 (f then λ a. give (h a))
+some-built f h F = fewer (f then λ a. give (h a)) 1 (made-built 1 f h F) 0 (omega arith)
 
-register-op-field : (n : ℕ) → Field 0 (registerOp n)
+register-op-built : (n : ℕ) → Built 0 (registerOp n)
 unfolding registerOp
-register-op-field n =
-    pick-field 0 (eqb n 0) _ _ (some-field value (λ x. ORegister (Write x)) value-field)
-    (pick-field 0 (eqb n 1) (give (ORegister Read)) (refuse Unknown) (give-field (ORegister Read))
-    (refuse-field Op Unknown 0))
+register-op-built n =
+    either 0 (eqb n 0) _ _ (some-built value (λ x. ORegister (Write x)) value-built)
+    (either 0 (eqb n 1) (give (ORegister Read)) (refuse Unknown) (no-bytes (ORegister Read))
+    (never Op Unknown 0))
 
-once-op-field : (n : ℕ) → Field 0 (onceOp n)
+once-op-built : (n : ℕ) → Built 0 (onceOp n)
 unfolding onceOp
-once-op-field n =
-    pick-field 0 (eqb n 0) _ _ (some-field value (λ x. OWORegister (WOWrite x)) value-field)
-    (pick-field 0 (eqb n 1) (give (OWORegister WORead)) (refuse Unknown) (give-field (OWORegister WORead))
-    (refuse-field Op Unknown 0))
+once-op-built n =
+    either 0 (eqb n 0) _ _ (some-built value (λ x. OWORegister (WOWrite x)) value-built)
+    (either 0 (eqb n 1) (give (OWORegister WORead)) (refuse Unknown) (no-bytes (OWORegister WORead))
+    (never Op Unknown 0))
 
-stack-op-field : (n : ℕ) → Field 0 (stackOp n)
+stack-op-built : (n : ℕ) → Built 0 (stackOp n)
 unfolding stackOp
-stack-op-field n =
-    pick-field 0 (eqb n 0) _ _ (some-field value (λ x. OVec (Push x)) value-field)
-    (pick-field 0 (eqb n 1) (give (OVec Pop)) _ (give-field (OVec Pop))
-    (pick-field 0 (eqb n 2) (give (OVec Len)) (refuse Unknown) (give-field (OVec Len))
-    (refuse-field Op Unknown 0)))
+stack-op-built n =
+    either 0 (eqb n 0) _ _ (some-built value (λ x. OVec (Push x)) value-built)
+    (either 0 (eqb n 1) (give (OVec Pop)) _ (no-bytes (OVec Pop))
+    (either 0 (eqb n 2) (give (OVec Len)) (refuse Unknown) (no-bytes (OVec Len))
+    (never Op Unknown 0)))
 
-register-ret-field : (n : ℕ) → Field 0 (registerRet n)
+register-ret-built : (n : ℕ) → Built 0 (registerRet n)
 unfolding registerRet
-register-ret-field n =
-    pick-field 0 (eqb n 0) (give (RRegister WriteOk)) _ (give-field (RRegister WriteOk))
-    (pick-field 0 (eqb n 1) _ (refuse Unknown) (some-field value (λ x. RRegister (ReadOk x)) value-field)
-    (refuse-field Ret Unknown 0))
+register-ret-built n =
+    either 0 (eqb n 0) (give (RRegister WriteOk)) _ (no-bytes (RRegister WriteOk))
+    (either 0 (eqb n 1) _ (refuse Unknown) (some-built value (λ x. RRegister (ReadOk x)) value-built)
+    (never Ret Unknown 0))
 
-once-ret-field : (n : ℕ) → Field 0 (onceRet n)
+once-ret-built : (n : ℕ) → Built 0 (onceRet n)
 unfolding onceRet
-once-ret-field n =
-    pick-field 0 (eqb n 0) (give (RWORegister WOWriteOk)) _ (give-field (RWORegister WOWriteOk))
-    (pick-field 0 (eqb n 1) (give (RWORegister WOWriteFail)) _ (give-field (RWORegister WOWriteFail))
-    (pick-field 0 (eqb n 2) _ (refuse Unknown) (some-field maybe (λ x. RWORegister (WOReadOk x)) maybe-field)
-    (refuse-field Ret Unknown 0)))
+once-ret-built n =
+    either 0 (eqb n 0) (give (RWORegister WOWriteOk)) _ (no-bytes (RWORegister WOWriteOk))
+    (either 0 (eqb n 1) (give (RWORegister WOWriteFail)) _ (no-bytes (RWORegister WOWriteFail))
+    (either 0 (eqb n 2) _ (refuse Unknown) (some-built maybe (λ x. RWORegister (WOReadOk x)) maybe-built)
+    (never Ret Unknown 0)))
 
-stack-ret-field : (n : ℕ) → Field 0 (stackRet n)
+stack-ret-built : (n : ℕ) → Built 0 (stackRet n)
 unfolding stackRet
-stack-ret-field n =
-    pick-field 0 (eqb n 0) (give (RVec PushOk)) _ (give-field (RVec PushOk))
-    (pick-field 0 (eqb n 1) _ _ (some-field maybe (λ x. RVec (PopOk x)) maybe-field)
-    (pick-field 0 (eqb n 2) _ (refuse Unknown) (some-field number (λ x. RVec (LenOk x)) number-field)
-    (refuse-field Ret Unknown 0)))
+stack-ret-built n =
+    either 0 (eqb n 0) (give (RVec PushOk)) _ (no-bytes (RVec PushOk))
+    (either 0 (eqb n 1) _ _ (some-built maybe (λ x. RVec (PopOk x)) maybe-built)
+    (either 0 (eqb n 2) _ (refuse Unknown) (some-built number (λ x. RVec (LenOk x)) one-number)
+    (never Ret Unknown 0)))
 
-operation-of : (k : Kind) (n : ℕ) → Field 0 (operationOf k n)
+operation-of : (k : Kind) (n : ℕ) → Built 0 (operationOf k n)
 unfolding operationOf
-operation-of (Register v) n = register-op-field n
-operation-of (WORegister m) n = once-op-field n
-operation-of (Vec d) n = stack-op-field n
+operation-of (Register v) n = register-op-built n
+operation-of (WORegister m) n = once-op-built n
+operation-of (Vec d) n = stack-op-built n
 
-answer-of : (k : Kind) (n : ℕ) → Field 0 (answerOf k n)
+answer-of : (k : Kind) (n : ℕ) → Built 0 (answerOf k n)
 unfolding answerOf
-answer-of (Register v) n = register-ret-field n
-answer-of (WORegister m) n = once-ret-field n
-answer-of (Vec d) n = stack-ret-field n
+answer-of (Register v) n = register-ret-built n
+answer-of (WORegister m) n = once-ret-built n
+answer-of (Vec d) n = stack-ret-built n
 
-operation-field : (k : Kind) → Field 1 (operation k)
+operation-built : (k : Kind) → Built 1 (operation k)
 unfolding operation
-operation-field k = then-field 1 0 number (operationOf k) number-field (operation-of k)
+operation-built k = next-to 1 0 number (operationOf k) one-number (operation-of k)
 
-answer-field : (k : Kind) → Field 1 (answer k)
+answer-built : (k : Kind) → Built 1 (answer k)
 unfolding answer
-answer-field k = then-field 1 0 number (answerOf k) number-field (answer-of k)
+answer-built k = next-to 1 0 number (answerOf k) one-number (answer-of k)
 
-event-of : (k : Kind) (n : ℕ) → Field 1 (eventOf k n)
+event-of : (k : Kind) (n : ℕ) → Built 1 (eventOf k n)
 unfolding eventOf
 event-of k n =
-    pick-field 1 (eqb (n % 2) 0) _ _ (made-field 1 (operation k) (λ op. invoked (n / 2) op) (operation-field k))
-    (made-field 1 (answer k) (λ ret. returned (n / 2) ret) (answer-field k))
+    either 1 (eqb (n % 2) 0) _ _ (made-built 1 (operation k) (λ op. invoked (n / 2) op) (operation-built k))
+    (made-built 1 (answer k) (λ ret. returned (n / 2) ret) (answer-built k))
+
+pub event-built : (k : Kind) → Built 2 (event k)
+unfolding event
+event-built k = next-to 1 1 number (eventOf k) one-number (event-of k)
 
 -- An event takes two bytes at least.
 pub event-field : (k : Kind) → Field 2 (event k)
-unfolding event
-event-field k = then-field 1 1 number (eventOf k) number-field (event-of k)
+event-field k = built-field (event-built k)
 
-values-field : (n i : ℕ) (items : List ℤ) → Field 0 (valuesFrom n i items)
+values-built : (n i : ℕ) (items : List ℤ) → Built 0 (valuesFrom n i items)
 unfolding valuesFrom
-values-field zero i items = give-field (newStack items i)
-values-field (suc n) i items =
+values-built zero i items = no-bytes (newStack items i)
+values-built (suc n) i items =
     fewer (value then λ v. valuesFrom n (i + 1) (set items i v)) 1
-    (then-field 1 0 value (λ v. valuesFrom n (i + 1) (set items i v)) value-field (λ v. values-field n (i + 1) (set items i v))) 0 (omega arith)
+    (next-to 1 0 value (λ v. valuesFrom n (i + 1) (set items i v)) value-built (λ v. values-built n (i + 1) (set items i v))) 0 (omega arith)
 
-counted-field : (n : ℕ) → Field 0 (counted n)
+counted-built : (n : ℕ) → Built 0 (counted n)
 unfolding counted
-counted-field n = pick-field 0 (ltb startRoom n) (refuse StartTooDeep) (valuesFrom n 0 zeros) (refuse-field Object StartTooDeep 0) (values-field n 0 zeros)
+counted-built n = either 0 (ltb startRoom n) (refuse StartTooDeep) (valuesFrom n 0 zeros) (never Object StartTooDeep 0) (values-built n 0 zeros)
 
-object-field : (n : ℕ) → Field 1 (object n)
+object-built : (n : ℕ) → Built 1 (object n)
 unfolding object registerStart onceStart stackStart
-object-field n =
-    pick-field 1 (eqb n 0) _ _ (made-field 1 value newRegister value-field)
-    (pick-field 1 (eqb n 1) _ _ (made-field 1 maybe newOnce maybe-field)
-    (pick-field 1 (eqb n 2) _ (refuse Unknown) (then-field 1 0 number counted number-field counted-field)
-    (refuse-field Object Unknown 1)))
+object-built n =
+    either 1 (eqb n 0) _ _ (made-built 1 value newRegister value-built)
+    (either 1 (eqb n 1) _ _ (made-built 1 maybe newOnce maybe-built)
+    (either 1 (eqb n 2) _ (refuse Unknown) (next-to 1 0 number counted one-number counted-built)
+    (never Object Unknown 1)))
 
-start-field : Field 2 start
+pub start-built : Built 2 start
 unfolding start
-start-field = then-field 1 1 number object number-field object-field
+start-built = next-to 1 1 number object one-number object-built
 
 pub opened-long : (s : List ℕ) → opens s ≡ true → length opening ≤ length s
 unfolding opens
@@ -199,7 +202,7 @@ header-field s = go (ltb longest (length s)) (opens s) refl
         → Takes 6 (length s) (pick long (refused TooLong) (pick opened (from start s (length opening)) (refused Unopened)))
     go true true e = tt
     go true false e = tt
-    go false true e = from-takes start 2 start-field s (length opening) (opened-long s e)
+    go false true e = from-takes start 2 (built-field start-built) s (length opening) (opened-long s e)
     go false false e = tt
 
 -- A file with a header is not too long.

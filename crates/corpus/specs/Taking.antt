@@ -29,8 +29,8 @@ takes-later (got x used) at least most t = omega arith
 takes-later (refused why) at least most t = tt
 
 module _ {A : Type 0} (f : Reader A) (least : ℕ) (F : Field least f) where
-  pub fewer : (n : ℕ) → n ≤ least → Field n f
-  fewer n h s = takes-wider (f s) least (length s) n (length s) h (omega arith) (F s)
+  fewer-field : (n : ℕ) → n ≤ least → Field n f
+  fewer-field n h s = takes-wider (f s) least (length s) n (length s) h (omega arith) (F s)
 
   pub from-takes : (s : List ℕ) (at : ℕ) → at ≤ length s → Takes (at + least) (length s) (from f s at)
   unfolding from
@@ -48,19 +48,19 @@ module _ {A : Type 0} (f : Reader A) (least : ℕ) (F : Field least f) where
       → (at + least ≤ next) × (next ≤ length s)
   next-in s at h a next e = rw e at (from-takes s at h)
 
-pub give-field : {A : Type 0} (a : A) → Field 0 (give a)
+give-field : {A : Type 0} (a : A) → Field 0 (give a)
 unfolding give
 give-field a s = omega arith
 
-pub refuse-field : (A : Type 0) (why : Refusal) (n : ℕ) → Field n (refuse {A = A} why)
+refuse-field : (A : Type 0) (why : Refusal) (n : ℕ) → Field n (refuse {A = A} why)
 unfolding refuse
 refuse-field A why n s = tt
 
-pub pick-field : {A : Type 0} (n : ℕ) (b : Bool) (f g : Reader A) → Field n f → Field n g → Field n (pick b f g)
+pick-field : {A : Type 0} (n : ℕ) (b : Bool) (f g : Reader A) → Field n f → Field n g → Field n (pick b f g)
 pick-field n true f g F G = F
 pick-field n false f g F G = G
 
-pub then-field : {A B : Type 0} (m n : ℕ) (f : Reader A) (g : A → Reader B) → Field m f → ((a : A) → Field n (g a)) → Field (m + n) (f then g)
+then-field : {A B : Type 0} (m n : ℕ) (f : Reader A) (g : A → Reader B) → Field m f → ((a : A) → Field n (g a)) → Field (m + n) (f then g)
 unfolding _then_
 then-field {A} {B} m n f g F G s = go (f s) (F s)
   where
@@ -85,3 +85,23 @@ number-takes (b ∷ bs) i sum = go (λ v. number-takes bs (i + 1) v) (tooBig i b
 pub number-field : Field 1 number
 unfolding number
 number-field s = takes-wider (numberFrom s 0 0) 1 (0 + length s) 1 (length s) (omega arith) (omega arith) (number-takes s 0 0)
+
+-- A field that is put together from numbers, and the least number of bytes that it takes.
+pub data BuiltOf : (A : Type 0) → ℕ → Reader A → Type 1 where
+  one-number : BuiltOf ℕ 1 number
+  no-bytes : {A : Type 0} (a : A) → BuiltOf A 0 (give a)
+  never : (A : Type 0) (why : Refusal) (n : ℕ) → BuiltOf A n (refuse why)
+  either : {A : Type 0} (n : ℕ) (b : Bool) (f g : Reader A) → BuiltOf A n f → BuiltOf A n g → BuiltOf A n (pick b f g)
+  next-to : {A B : Type 0} (m n : ℕ) (f : Reader A) (g : A → Reader B) → BuiltOf A m f → ((a : A) → BuiltOf B n (g a)) → BuiltOf B (m + n) (f then g)
+  fewer : {A : Type 0} (f : Reader A) (least : ℕ) → BuiltOf A least f → (n : ℕ) → n ≤ least → BuiltOf A n f
+
+abbrev pub Built : {A : Type 0} → ℕ → Reader A → Type 1
+Built {A} n f = BuiltOf A n f
+
+pub built-field : {A : Type 0} {n : ℕ} {f : Reader A} → Built n f → Field n f
+built-field one-number = number-field
+built-field (no-bytes a) = give-field a
+built-field (never A why n) = refuse-field A why n
+built-field (either n b f g F G) = pick-field n b f g (built-field F) (built-field G)
+built-field (next-to m n f g F G) = then-field m n f g (built-field F) (λ a. built-field (G a))
+built-field (fewer f least F n h) = fewer-field f least (built-field F) n h

@@ -44,7 +44,7 @@ abbrev pub Breaking : ℕ → Type 0
 Breaking n = (n ≡ 4) ⊎ (n ≡ 5)
 
 -- no refusal of a file is
-file-refusal : (why : Refusal) → Breaking (numberOf why) → ⊥
+pub file-refusal : (why : Refusal) → Breaking (numberOf why) → ⊥
 unfolding numberOf
 file-refusal TooLong = ⊎-elim (λ e. omega arith) (λ e. omega arith)
 file-refusal Unopened = ⊎-elim (λ e. omega arith) (λ e. omega arith)
@@ -81,7 +81,8 @@ off true = refl
 off false = refl
 
 module _ (M : Model) where
-  unbroken : (l : Events families) (t : M .Tester) → AllRecorded M t l → broken (drawn M t l) ≡ false
+  -- what draws 0 does not break
+  pub unbroken : (l : Events families) (t : M .Tester) → AllRecorded M t l → broken (drawn M t l) ≡ false
   unbroken [] t all = refl
   unbroken (v ∷ l) t all = rw (zero-keeps (give M t v .0) (all .0)) (unbroken l (give M t v .1) (all .1))
 
