@@ -19,7 +19,7 @@ fn natural(v: i32) -> u32 {
     v as u32
 }
 
-fn say_value(v: i32) {
+pub fn say_value(v: i32) {
     if v < 0 {
         say(b"-");
         say_number(natural(!v) as u64 + 1);
