@@ -4,3 +4,5 @@ pub mod Fields
 pub mod Answered
 pub mod Starting
 pub mod Loading
+pub mod InPlace
+pub mod Turning

@@ -1,4 +1,4 @@
--- The loop over the events, for both testers.
+-- The loop over the events, for any model.
 use Prim.Native.Nat.{ℕ, zero, suc, _+_, _<_, _≤_}
 use mathlib.Core.Path.{_≡_, refl, sym, ap, _∙_}
 use mathlib.Core.Logic.{_≢_}

@@ -8,12 +8,7 @@ use Rattle.semantics.specs.declared.value.Maybe.{Maybe}
 use Rattle.semantics.specs.declared.Object.{Object}
 use Rattle.semantics.specs.declared.Op.{Op}
 use Rattle.semantics.specs.declared.Ret.{Ret}
-use Rattle.recording.specs.declared.linearizability.LinearizabilityTester.{LinearizabilityTester}
-use Rattle.recording.specs.declared.linearizability.After.{After as LAfter}
-use Rattle.recording.specs.declared.sequential_consistency.SequentialConsistencyTester.{SequentialConsistencyTester}
-use Rattle.recording.specs.declared.sequential_consistency.After.{After as SAfter}
 use Rattle.reading.specs.Models.{sequentialModel, linearizabilityModel}
-use Rattle.reading.specs.Inputs.{give}
 use Rattle.corpus.specs.declared.numbers.NumberRead.{NumberRead}
 use Rattle.corpus.specs.declared.numbers.NumberRead.the-variants.{Number, Refused as NRefused}
 use Rattle.corpus.specs.declared.values.MaybeRead.{MaybeRead}
@@ -67,14 +62,6 @@ asEvent (refused why) = ERefused why
 abbrev pub asHeader : Read Object → Header
 asHeader (got o used) = record { begins = At used; start = o }
 asHeader (refused why) = record { begins = BRefused why; start = newRegister (pos 0) }
-
--- an event's call
-
-abbrev pub linearizabilityGiven : LinearizabilityTester → CEvent → LAfter
-linearizabilityGiven t e = record { recorded = give linearizabilityModel t (heard e) .0; tester = give linearizabilityModel t (heard e) .1 }
-
-abbrev pub sequentialGiven : SequentialConsistencyTester → CEvent → SAfter
-sequentialGiven t e = record { recorded = give sequentialModel t (heard e) .0; tester = give sequentialModel t (heard e) .1 }
 
 -- what loading comes to
 

@@ -2,12 +2,14 @@ pub mod Refusals
 pub mod Reader
 pub mod Format
 pub mod Answers
+pub mod Feeding
 pub mod SameBytes
 pub mod Groups
 pub mod Taking
 pub mod Lengths
 pub mod Sums
 pub mod Loaded
+pub mod Alike
 pub mod Files
 pub mod Starts
 pub mod Traces

@@ -1,5 +1,6 @@
 // Capture files: the bytes of a file in, a tester fed with its events out.
 pub mod events;
+mod feeding;
 pub mod header;
 pub mod linearizability;
 mod numbers;

@@ -1,20 +1,11 @@
-// A file loaded into a tester of sequential consistency.
-use crate::events::Event;
-use crate::events::EventRead;
-use crate::events::read_event;
-use crate::header::Begins;
-use crate::header::read_header;
-use crate::refusal;
-use recording::consistency_tester;
-use recording::sequential_consistency::After;
+// A file loaded into a tester of sequential consistency: the history that the tester of linearizability holds,
+// without its notes.
+use crate::linearizability;
 use recording::sequential_consistency::SequentialConsistencyTester;
-use semantics::Kind;
 ghost use mathlib.Core.Path.{_≡_};
-ghost use Prim.Native.Nat.{_≤_};
-ghost use lib.ListN.{length, drop};
 ghost use Rattle.reading.specs.Models.{sequentialModel};
-ghost use Rattle.corpus.specs.Format.{longest, loadFrom, loadOf};
-ghost use Rattle.corpus.specs.Answers.{sequentialGiven, asSequential};
+ghost use Rattle.corpus.specs.Format.{loadOf};
+ghost use Rattle.corpus.specs.Answers.{asSequential};
 
 // The number of the refusal, the place of the event that it befell, and the tester as it stands; number
 // and place are 0 where all is loaded.
@@ -24,75 +15,17 @@ pub struct Loaded {
     pub tester: SequentialConsistencyTester,
 }
 
-// The call that an event is.
-fn give(tester: SequentialConsistencyTester, event: Event) -> After
-    ensures { λ r. ⌜ r ≡ sequentialGiven tester event ⌝ }
-{
-    match event {
-        Event::Invoked { thread, op } => tester.on_invoke(thread, op),
-        Event::Returned { thread, ret } => tester.on_return(thread, ret),
-    }
-}
-
-// The events from a place to the end; what follows an event is handed on as the rest of the file.
-fn feed(fresh: SequentialConsistencyTester, file: &[u8], first: usize, kind: Kind) -> Loaded
-    requires { ⌜ (first ≤ length (now file)) × (length (now file) ≤ longest) ⌝ }
-    ensures { λ r. ⌜ r ≡ asSequential (loadFrom sequentialModel (length (now (file .entry))) kind (drop first (now (file .entry))) first fresh) ⌝ }
-{
-    let mut tester = fresh;
-    let mut at = first;
-    while at < file.len() {
-        let place = at as u32;
-        let read = read_event(&file[at..], kind);
-        match read {
-            EventRead::Refused(why) => {
-                return Loaded {
-                    number: refusal::number(why),
-                    place,
-                    tester,
-                };
-            }
-            EventRead::Event { event, used } => {
-                let after = give(tester, event);
-                let recorded = after.recorded;
-                let number = consistency_tester::number(recorded);
-                tester = after.tester;
-                if number != 0 {
-                    return Loaded {
-                        number,
-                        place,
-                        tester,
-                    };
-                }
-                at += used;
-            }
-        }
-    }
-    Loaded {
-        number: 0,
-        place: 0,
-        tester,
-    }
-}
-
-// Loads a file: its header, and then its events.
+// Loads a file.
 pub fn load(file: &[u8]) -> Loaded
     ensures { λ r. ⌜ r ≡ asSequential (loadOf sequentialModel (now (file .entry))) ⌝ }
 {
-    let header = read_header(file);
-    let start = header.start;
-    let new = SequentialConsistencyTester::new(start);
-    let tester = new.tester;
-    let begins = header.begins;
-    match begins {
-        Begins::Refused(why) => Loaded {
-            number: refusal::number(why),
-            place: 0,
-            tester,
-        },
-        Begins::At(first) => {
-            let kind = start.kind;
-            feed(tester, file, first, kind)
-        }
+    let loaded = linearizability::load(file);
+    let noted = loaded.tester;
+    let history = noted.history;
+    let tester = SequentialConsistencyTester { history };
+    Loaded {
+        number: loaded.number,
+        place: loaded.place,
+        tester,
     }
 }

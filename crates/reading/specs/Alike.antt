@@ -24,11 +24,11 @@ use Rattle.reading.specs.Feeding.{good-give, fed-rows}
 
 -- what an input comes to is a matter of the history alone
 
-abbrev stepOf : History → Event families → Step
+abbrev pub stepOf : History → Event families → Step
 stepOf h (invoked t op) = invokeOf true h t op
 stepOf h (returned t ret) = returnOf true h t ret
 
-given : (M : Model) (L : Lawful M) (s : M .Tester) → Good M L s → (v : Event families)
+pub given : (M : Model) (L : Lawful M) (s : M .Tester) → Good M L s → (v : Event families)
     → (give M s v .0 ≡ stepOf (M .history s) v .recorded) × (M .history (give M s v .1) ≡ stepOf (M .history s) v .history)
 given M L s g (invoked t op) =
     let e = L .invokes s t op ∙ ap (λ (b : Bool). (invokeOf b (M .history s) t op .recorded, L .after-invoke s t (invokeOf b (M .history s) t op)))

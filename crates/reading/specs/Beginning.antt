@@ -1,6 +1,6 @@
 -- A constructor leaves a fresh history in shape, whatever it was given.
 use Prim.Native.Nat.{ℕ, _≤_}
-use mathlib.Core.Path.{_≡_, refl}
+use mathlib.Core.Path.{_≡_, refl, ap}
 use mathlib.Core.Bool.{Bool, true, false}
 use mathlib.Core.List.{List, []}
 use lib.ListN.{replicate, length-replicate}
@@ -10,8 +10,11 @@ use native.Mathlib.Omega.{arith}
 use Rattle.history.specs.Lists.{getD-same}
 use Rattle.semantics.specs.Value.{pick}
 use Rattle.semantics.specs.Sizes.{room, threads, capacity, startRoom}
+use Rattle.semantics.specs.Family.{familyOf}
 use Rattle.semantics.specs.Refusals.{depthOf}
 use Rattle.semantics.specs.Calls.{zeros, newStack}
+use Rattle.semantics.specs.declared.Kind.{Kind}
+use Rattle.semantics.specs.declared.Kind.the-variants.{Register, WORegister, Vec}
 use Rattle.semantics.specs.declared.Object.{Object}
 use Rattle.recording.specs.declared.consistency_tester.Made.{Made}
 use Rattle.recording.specs.declared.consistency_tester.Made.the-variants.{New, StartTooDeep, OutOfShape}
@@ -44,6 +47,22 @@ begun-low start = go (ltb room (depthOf (start .kind))) (ltb startRoom (depthOf 
     go true b e = omega arith
     go false true e = omega arith
     go false false e = ltb-false startRoom (depthOf (start .kind)) e
+
+-- of the same family
+pub begun-family : (start : Object) → familyOf (startOf (madeOf start) start .kind) ≡ familyOf (start .kind)
+unfolding startOf madeOf newStack depthOf familyOf
+begun-family start = go (start .kind) refl
+  where
+    deep : (d : ℕ) (a b : Bool) → start .kind ≡ Vec d → familyOf (startOf (pick a OutOfShape (pick b StartTooDeep New)) start .kind) ≡ familyOf (Vec d)
+    deep d true b e = refl
+    deep d false true e = refl
+    deep d false false e = ap familyOf e
+
+    go : (k : Kind) → start .kind ≡ k
+        → familyOf (startOf (pick (ltb room (depthOf k)) OutOfShape (pick (ltb startRoom (depthOf k)) StartTooDeep New)) start .kind) ≡ familyOf k
+    go (Register v) e = ap familyOf e
+    go (WORegister m) e = ap familyOf e
+    go (Vec d) e = deep d (ltb room d) (ltb startRoom d) e
 
 pub fresh-sized : (o : Object) → Sized (fresh o)
 unfolding fresh

@@ -31,6 +31,7 @@ pub mod Feeding
 pub mod Wellfed
 pub mod Meant
 pub mod Alike
+pub mod Marks
 -- What the Rust does.
 pub mod Tables
 pub mod RustSteps

@@ -19,6 +19,7 @@ use Rattle.recording.specs.declared.shape.Look.{Look}
 use Rattle.recording.specs.Record.{findFlying}
 use Rattle.recording.specs.Shape.{allBelow, operationFits}
 use Rattle.recording.specs.Events.{isTaken, unless}
+use Rattle.recording.specs.Testers.{notesWith}
 
 -- the place that a mark says: 0 for none, else one more than the place
 unfoldable pub placeOf : ℕ → Flying
@@ -65,6 +66,10 @@ validAfter valid InFlight = false
 validAfter valid NothingInFlight = false
 validAfter valid Full = valid
 validAfter valid OutOfShape = valid
+
+-- the notes of the operation at place i, of thread `own`; a place that no operation has gets none
+unfoldable pub notedAt : List ℕ → ℕ → ℕ → List ℕ → List ℕ
+notedAt done own i notes = pick (leb capacity i) notes (notesWith done own i notes threads)
 
 -- the sizes
 

@@ -2,6 +2,6 @@
 // any order whatever.
 pub mod consistency_tester;
 pub mod linearizability;
-mod refusal;
+pub mod refusal;
 pub mod sequential_consistency;
 pub mod shape;

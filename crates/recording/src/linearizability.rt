@@ -11,9 +11,10 @@ use semantics::sizes::OPERATIONS;
 use semantics::sizes::THREADS;
 ghost use mathlib.Core.Path.{_≡_};
 ghost use Prim.Native.Nat.{_<_};
-ghost use Rattle.semantics.specs.Sizes.{threads, capacity};
+ghost use Rattle.semantics.specs.Sizes.{capacity};
 ghost use Rattle.recording.specs.Shape.{notable, notesFit, notesShaped};
-ghost use Rattle.recording.specs.Testers.{linearizability, notesWith, shapedTester, newLinearizability, linearizabilityInvoke, linearizabilityReturn, linearizabilityInvret, linearizabilityLen};
+ghost use Rattle.recording.specs.Pass.{notedAt};
+ghost use Rattle.recording.specs.Testers.{linearizability, shapedTester, newLinearizability, linearizabilityInvoke, linearizabilityReturn, linearizabilityInvret, linearizabilityLen};
 
 // A note for each operation and thread.
 pub const NOTES: usize = OPERATIONS * THREADS;
@@ -84,11 +85,14 @@ fn noted(history: History, notes: &[u8; NOTES]) -> bool
     true
 }
 
-// Writes the notes of an operation that is invoked now and gets that place.
-fn note(notes: &mut [u8; NOTES], done: &[u8; THREADS], at: usize, own: u8)
-    requires { ⌜ at < capacity ⌝ }
-    ensures { λ r. ⌜ now (notes .exit) ≡ notesWith (now (done .entry)) own at (now (notes .entry)) threads ⌝ }
+// Writes the notes of an operation that is invoked now and gets that place; there are none for a place that no
+// operation has.
+pub fn note(notes: &mut [u8; NOTES], done: &[u8; THREADS], at: usize, own: u8)
+    ensures { λ r. ⌜ now (notes .exit) ≡ notedAt (now (done .entry)) own at (now (notes .entry)) ⌝ }
 {
+    if OPERATIONS <= at {
+        return;
+    }
     let mut u = 0;
     while u < THREADS {
         let n = notable_of(done[u], own, u as u8);

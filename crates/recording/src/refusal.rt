@@ -19,7 +19,7 @@ fn place_of(mark: u8) -> Flying
 }
 
 // Where the thread has its operation in flight.
-pub(crate) fn place_in(flying: &[u8; THREADS], thread: u32) -> Flying
+pub fn place_in(flying: &[u8; THREADS], thread: u32) -> Flying
     ensures { λ r. ⌜ r ≡ placeIn (now (flying .entry)) thread ⌝ }
 {
     let own = thread as usize;
@@ -30,7 +30,7 @@ pub(crate) fn place_in(flying: &[u8; THREADS], thread: u32) -> Flying
 }
 
 // That place as a number.
-pub(crate) fn place_at(place: Flying) -> usize
+pub fn place_at(place: Flying) -> usize
     ensures { λ r. ⌜ r ≡ placeAt place ⌝ }
 {
     match place {
@@ -40,7 +40,7 @@ pub(crate) fn place_at(place: Flying) -> usize
 }
 
 // The refusals that any event can meet first: 9, 1, 2, 3.
-pub(crate) fn admit(shaped: bool, valid: bool, thread: u32, same: bool) -> Recorded
+pub fn admit(shaped: bool, valid: bool, thread: u32, same: bool) -> Recorded
     ensures { λ r. ⌜ r ≡ admitOf shaped valid thread same ⌝ }
 {
     let own = thread as usize;
@@ -60,7 +60,7 @@ pub(crate) fn admit(shaped: bool, valid: bool, thread: u32, same: bool) -> Recor
 }
 
 // An invocation that is admitted: 4, 6.
-pub(crate) fn check_invoke(first: Recorded, place: Flying, count: usize) -> Recorded
+pub fn check_invoke(first: Recorded, place: Flying, count: usize) -> Recorded
     ensures { λ r. ⌜ r ≡ invokeCheck first place count ⌝ }
 {
     if is_taken(first) {
@@ -80,7 +80,7 @@ pub(crate) fn check_invoke(first: Recorded, place: Flying, count: usize) -> Reco
 }
 
 // A return that is admitted: 5.
-pub(crate) fn check_return(first: Recorded, place: Flying) -> Recorded
+pub fn check_return(first: Recorded, place: Flying) -> Recorded
     ensures { λ r. ⌜ r ≡ returnCheck first place ⌝ }
 {
     if is_taken(first) {
@@ -97,7 +97,7 @@ pub(crate) fn check_return(first: Recorded, place: Flying) -> Recorded
 }
 
 // 4 and 5 turn validity off for good.
-pub(crate) fn valid_after(valid: bool, recorded: Recorded) -> bool
+pub fn valid_after(valid: bool, recorded: Recorded) -> bool
     ensures { λ r. ⌜ r ≡ validAfter valid recorded ⌝ }
 {
     match recorded {

@@ -1,4 +1,4 @@
-use mathlib.Core.Path.{ap, _∙_}
+use mathlib.Core.Path.{refl, ap, _∙_}
 use borrow.Author.Needs.{needs}
 use Rattle.recording.specs.declared.linearizability.New.{New}
 use Rattle.reading.specs.Models.{linearizabilityModel}
@@ -30,7 +30,8 @@ feed-requires : tie.Need-feed-requires
 feed-requires c κs =
     let file = c .before .before .before .before .before .before .before .before .args .file .now in
     let head = header-got (header file) (c .before .before .before .before .before .before .read-header .ensures) (c .before .begins2 .given .1) in
-    (first-in header 6 header-field file _ _ head .1, header-short file _ _ head)
+    let fresh = ap (λ (y : New). y .tester) (c .before .before .before .before .new .ensures) in
+    (record { start = _; of-kind = refl; new = fresh }, (first-in header 6 header-field file _ _ head .1, header-short file _ _ head))
 
 returns : tie.Need-returns
 returns c =

@@ -1,62 +1,18 @@
-use mathlib.Core.Path.{ap, _∙_}
+use mathlib.Core.Path.{sym, ap, _∙_}
 use borrow.Author.Needs.{needs}
-use Rattle.recording.specs.declared.sequential_consistency.New.{New}
-use Rattle.reading.specs.Models.{sequentialModel}
-use Rattle.corpus.specs.Format.{header}
+use Rattle.recording.specs.Testers.{sequential}
+use Rattle.corpus.specs.declared.linearizability.Loaded.{Loaded as LLoaded}
+use Rattle.corpus.specs.declared.sequential_consistency.Loaded.{Loaded}
 use Rattle.corpus.specs.Answers.{asSequential}
-use Rattle.corpus.specs.Taking.{first-in}
-use Rattle.corpus.specs.Lengths.{header-field, header-short}
-use Rattle.corpus.proofs.Answered.{header-got, header-refused}
-use Rattle.corpus.proofs.Loading.{load-refused, load-fed}
+use Rattle.corpus.specs.Alike.{loads-alike}
 use Rattle.corpus.proofs.sequential_consistency.load.Statement.{statement}
 use Rattle.corpus.proofs.sequential_consistency.load.Tie as tie
 
-read-header-requires : tie.Need-read-header-requires
-read-header-requires c κs = search needs
-
-new-requires : tie.Need-new-requires
-new-requires c κs = search needs
-
-enum-known-begins : tie.Need-enum-known-begins
-enum-known-begins c = search needs
-
-number-requires : tie.Need-number-requires
-number-requires c κs = search needs
-
-enum-known-begins-2 : tie.Need-enum-known-begins-2
-enum-known-begins-2 c = search needs
-
-feed-requires : tie.Need-feed-requires
-feed-requires c κs =
-    let file = c .before .before .before .before .before .before .before .before .args .file .now in
-    let head = header-got (header file) (c .before .before .before .before .before .before .read-header .ensures) (c .before .begins2 .given .1) in
-    (first-in header 6 header-field file _ _ head .1, header-short file _ _ head)
+load-requires : tie.Need-load-requires
+load-requires c κs = search needs
 
 returns : tie.Need-returns
-returns c =
-    let file = c .before .before .before .before .before .before .before .before .before .args .file .now in
-    let no-head = header-refused (header file) (c .before .before .before .before .before .before .before .read-header .ensures)
-    (c .before .before .begins .given .1) in
-    let fresh = ap (λ (y : New). y .tester) (c .before .before .before .before .before .new .ensures) in
-    ap asSequential (load-refused sequentialModel file _ (no-head .0) _ _ (c .number .ensures) (fresh ∙ ap (sequentialModel .new) (no-head .1)))
-
-returns-2 : tie.Need-returns-2
-returns-2 c =
-    let file = c .before .before .before .before .before .before .before .before .before .args .file .now in
-    let head = header-got (header file) (c .before .before .before .before .before .before .before .read-header .ensures)
-    (c .before .before .begins2 .given .1) in
-    let fresh = ap (λ (y : New). y .tester) (c .before .before .before .before .before .new .ensures) in
-    c .feed .ensures ∙ ap asSequential (load-fed sequentialModel file _ _ head _ fresh)
+returns c = ap (λ (l : LLoaded). record { number = l .number; place = l .place; tester = sequential (l .tester .history) }) (c .before .before .load .ensures) ∙ ap asSequential (sym (loads-alike (c .before .before .before .before .args .file .now)))
 
 pub load-spec : {M : Type 1} → statement M
-load-spec =
-    tie.close
-    (tie.spec
-    read-header-requires
-    new-requires
-    enum-known-begins
-    number-requires
-    enum-known-begins-2
-    feed-requires
-    returns
-    returns-2)
+load-spec = tie.close (tie.spec load-requires returns)

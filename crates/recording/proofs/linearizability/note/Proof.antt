@@ -2,8 +2,10 @@ use Prim.Native.Nat.{ℕ, _≤_, _-_}
 use mathlib.Core.Path.{_≡_, refl, subst}
 use native.Mathlib.Omega.{arith}
 use borrow.Author.Needs.{needs}
+use borrow.Author.Tests.{le-leb, lt-leb}
 use Rattle.semantics.specs.Sizes.{threads}
 use Rattle.recording.specs.Testers.{notesWith}
+use Rattle.recording.specs.Pass.{notedAt}
 use Rattle.recording.proofs.Laws.{note-more}
 use Rattle.recording.proofs.linearizability.note.Statement.{statement}
 use Rattle.recording.proofs.linearizability.note.Tie as tie
@@ -45,15 +47,21 @@ loop-less c = search needs
 loop-again : tie.Need-loop-again Inv-loop μ-loop
 loop-again c =
     let at-loop = c .before .before .before .loop in
-    let a = c .before .before .before .before .args in
+    let a = c .before .before .before .before .before .args in
     (search needs, note-more _ _ _ (a .notes .now) (at-loop .notes) (at-loop .u) (c .notable-of .result) (at-loop .inv .1) (c .notable-of .ensures))
 
 returns : tie.Need-returns Inv-loop μ-loop
-returns c =
+unfolding notedAt
+returns c = rw (le-leb _ _ (c .if1 .taken)) refl
+
+returns-2 : tie.Need-returns-2 Inv-loop μ-loop
+unfolding notedAt
+returns-2 c =
     let at-loop = c .before .loop in
-    let a = c .before .before .args in
+    let a = c .before .before .before .args in
     let whole : at-loop .u ≡ threads = omega arith in
-    subst (λ (n : ℕ). at-loop .notes ≡ notesWith (a .done .now) (a .own) (a .at) (a .notes .now) n) whole (at-loop .inv .1)
+    rw (lt-leb _ _ (c .before .before .if1 .left))
+    (subst (λ (n : ℕ). at-loop .notes ≡ notesWith (a .done .now) (a .own) (a .at) (a .notes .now) n) whole (at-loop .inv .1))
 
 pub note-spec : {M : Type 1} → statement M
 note-spec =
@@ -61,6 +69,7 @@ note-spec =
     (tie.spec
     Inv-loop
     μ-loop
+    returns
     loop-holds
     element-copy-out-notable-of
     cast-notable-of
@@ -71,4 +80,4 @@ note-spec =
     add-u
     loop-less
     loop-again
-    returns)
+    returns-2)

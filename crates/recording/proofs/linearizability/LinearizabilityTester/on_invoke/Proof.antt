@@ -6,6 +6,7 @@ use borrow.Author.Needs.{needs}
 use Rattle.recording.specs.Events.{invokeOf}
 use Rattle.recording.specs.Shape.{shapedWith}
 use Rattle.recording.specs.Testers.{shapedTester}
+use Rattle.recording.specs.Admitting.{noted-in}
 use Rattle.recording.proofs.Noting.{taken-in, invoked-yes, invoked-no}
 use Rattle.recording.proofs.linearizability.LinearizabilityTester.on_invoke.Statement.{statement}
 use Rattle.recording.proofs.linearizability.LinearizabilityTester.on_invoke.Tie as tie
@@ -32,16 +33,7 @@ cast-note c =
     omega (arith, taken-in (shapedTester tester) h thread op _ e k .1)
 
 note-requires : tie.Need-note-requires
-note-requires c κs =
-    let start = c .before .before .before .before .before .before .before .before .before .before .before in
-    let tester = start .args .self in
-    let h = tester .history in
-    let thread = start .args .thread in
-    let op = start .args .op in
-    let e = c .before .before .before .before .before .before .invoke .ensures ∙ ap (λ (b : Bool). invokeOf (shapedWith b h) h thread op)
-    (c .before .before .before .before .before .before .before .noted .ensures) in
-    let k = sym (c .before .before .before .before .is-taken .ensures) ∙ c .before .before .before .if1 .taken in
-    taken-in (shapedTester tester) h thread op _ e k .0
+note-requires c κs = search needs
 
 returns : tie.Need-returns
 returns c =
@@ -53,7 +45,7 @@ returns c =
     let e = c .before .before .before .before .before .before .before .invoke .ensures ∙ ap (λ (b : Bool). invokeOf (shapedWith b h) h thread op)
     (c .before .before .before .before .before .before .before .before .noted .ensures) in
     let k = sym (c .before .before .before .before .before .is-taken .ensures) ∙ c .before .before .before .before .if1 .taken in
-    invoked-yes tester thread op _ e k _ (c .note .ensures)
+    invoked-yes tester thread op _ e k _ (c .note .ensures ∙ noted-in _ thread _ _ (taken-in (shapedTester tester) h thread op _ e k .0))
 
 returns-2 : tie.Need-returns-2
 returns-2 c =

@@ -2,9 +2,10 @@
 use Prim.Native.Nat.{ℕ, _<_, _≤_}
 use mathlib.Core.Path.{_≡_, refl, sym, ap, _∙_}
 use mathlib.Core.Bool.{Bool, true, false}
+use mathlib.Core.List.{List}
 use lib.Dec.{ltb, eqb}
 use lib.ListN.{getD}
-use borrow.Author.Tests.{lt-ltb, ltb-true}
+use borrow.Author.Tests.{lt-ltb, ltb-true, lt-leb}
 use Rattle.semantics.specs.Value.{pick}
 use Rattle.semantics.specs.Sizes.{threads, capacity}
 use Rattle.semantics.specs.Family.{opFamily, retFamily}
@@ -20,9 +21,10 @@ use Rattle.recording.specs.declared.shape.Look.{Look}
 use Rattle.recording.specs.Record.{extended, completed, findFlying}
 use Rattle.recording.specs.Shape.{family, shapedWith}
 use Rattle.recording.specs.Events.{isTaken, unless, step, invokeBy, invokeOf, returnBy, returnOf, sizeOf}
-use Rattle.recording.specs.Pass.{Looks, placeIn, placeAt, admitBy, admitOf, invokeGo, invokeCheck, returnGo, returnCheck, validAfter}
-use Rattle.recording.proofs.Laws.{never}
-use Rattle.recording.proofs.Held.{place-small, done-small}
+use Rattle.recording.specs.Testers.{notesWith}
+use Rattle.recording.specs.Pass.{Looks, placeIn, placeAt, admitBy, admitOf, invokeGo, invokeCheck, returnGo, returnCheck, validAfter, notedAt}
+use Rattle.recording.specs.Tests.{never}
+use Rattle.recording.specs.Held.{place-small, done-small}
 
 -- what the code hands back for what an event came to: the history as it is after the event, or as it came but for its validity
 abbrev pub outcome : History → Recorded → History → Step
@@ -127,6 +129,17 @@ module _ (shaped : Bool) (h : History) (t : ℕ) (same : Bool) (place : Flying) 
       go Nothing true z = refl
       go Nothing false z = never z
 
+  -- and nothing in flight
+  pub invoke-free : isTaken (invokeCheck (admitOf shaped (h .valid) t same) place (h .count)) ≡ true → findFlying t h ≡ Nothing
+  unfolding invokeCheck isTaken
+  invoke-free k =
+      let w = both-taken (admitOf shaped (h .valid) t same) (invokeGo place (ltb (h .count) capacity)) k in
+      sym (in-place (w .0)) ∙ go place (w .1)
+    where
+      go : (q : Flying) → isTaken (invokeGo q (ltb (h .count) capacity)) ≡ true → q ≡ Nothing
+      go (At i) z = never z
+      go Nothing z = refl
+
   -- a return that is taken is of a history in shape, and has a thread and a place
   pub return-taken : isTaken (returnCheck (admitOf shaped (h .valid) t same) place) ≡ true
       → (shaped ≡ true) × ((t < threads) × (findFlying t h ≡ At (placeAt place)))
@@ -159,6 +172,9 @@ module _ (noted : Bool) (h : History) (look : Look) (found : Looks (shapedWith n
   pub invoked-in : (r : Recorded) → r ≡ invokeCheck first place (h .count) → isTaken r ≡ true → (t < threads) × (h .count < capacity)
   invoked-in r q k = invoke-taken (shapedWith noted h) h t (eqb a b) place here (rw (q, let-in) at k)
 
+  pub invoked-free : (r : Recorded) → r ≡ invokeCheck first place (h .count) → isTaken r ≡ true → findFlying t h ≡ Nothing
+  invoked-free r q k = invoke-free (shapedWith noted h) h t (eqb a b) place here (rw (q, let-in) at k)
+
   pub returned : (ret : Ret) → a ≡ retFamily ret → (r : Recorded) → r ≡ returnCheck first place
       → outcome h r (completed h (placeAt place) t ret) ≡ returnOf (shapedWith noted h) h t ret
   returned ret f r q =
@@ -169,6 +185,14 @@ module _ (noted : Bool) (h : History) (look : Look) (found : Looks (shapedWith n
   returned-in r q k =
       let w = return-taken (shapedWith noted h) h t (eqb a b) place here (rw (q, let-in) at k) in
       (w .1 .0, (place-small noted h (w .0) t (placeAt place) (w .1 .1), done-small noted h (w .0) t (w .1 .0)))
+
+  pub returned-at : (r : Recorded) → r ≡ returnCheck first place → isTaken r ≡ true → findFlying t h ≡ At (placeAt place)
+  returned-at r q k = return-taken (shapedWith noted h) h t (eqb a b) place here (rw (q, let-in) at k) .1 .1
+
+-- the notes, at a place that an operation can have
+pub noted-in : (done : List ℕ) (own i : ℕ) (notes : List ℕ) → i < capacity → notedAt done own i notes ≡ notesWith done own i notes threads
+unfolding notedAt
+noted-in done own i notes l = rw (lt-leb capacity i l) refl
 
 -- the size
 
