@@ -1,7 +1,7 @@
 //! Which files are to be judged.
 
-use std::ffi::OsStr;
-use std::fs;
+use std::ffi::{OsStr, OsString};
+use std::fs::{self, FileType};
 use std::io;
 use std::path::{Path, PathBuf};
 
@@ -62,38 +62,42 @@ impl Finding {
             return self.unreadable(folder, "a link leads back to a folder that it lies in");
         }
         above.push(real);
-        for entry in entries {
-            if is_skipped(&entry) {
+        for (name, listed) in entries {
+            if is_skipped(&name) {
                 self.skipped += 1;
             } else {
-                self.add(&entry, above);
+                self.add(folder.join(name), listed, above);
             }
         }
         above.pop();
     }
 
-    fn add(&mut self, entry: &Path, above: &mut Vec<PathBuf>) {
-        match fs::metadata(entry) {
-            Ok(metadata) if metadata.is_dir() => self.enter(entry, above),
-            Ok(metadata) if metadata.is_file() => self.found.push(Found::File(entry.into())),
-            Ok(_) => self.unreadable(entry, "neither a file nor a folder"),
-            Err(error) => self.unreadable(entry, error),
+    fn add(&mut self, entry: PathBuf, listed: io::Result<FileType>, above: &mut Vec<PathBuf>) {
+        let followed = match listed {
+            Ok(link) if link.is_symlink() => fs::metadata(&entry).map(|to| to.file_type()),
+            other => other,
+        };
+        match followed {
+            Ok(file_type) if file_type.is_dir() => self.enter(&entry, above),
+            Ok(file_type) if file_type.is_file() => self.found.push(Found::File(entry)),
+            Ok(_) => self.unreadable(&entry, "neither a file nor a folder"),
+            Err(error) => self.unreadable(&entry, error),
         }
     }
 }
 
-/// What a folder holds, by name.
-fn sorted(folder: &Path) -> io::Result<Vec<PathBuf>> {
-    let entries: io::Result<Vec<PathBuf>> = fs::read_dir(folder)?
-        .map(|entry| entry.map(|entry| entry.path()))
+/// What a folder holds, by name, with what the folder's own list says it is: asking for each file would take as
+/// long as all else here.
+fn sorted(folder: &Path) -> io::Result<Vec<(OsString, io::Result<FileType>)>> {
+    let entries: io::Result<Vec<_>> = fs::read_dir(folder)?
+        .map(|entry| entry.map(|entry| (entry.file_name(), entry.file_type())))
         .collect();
     let mut entries = entries?;
-    entries.sort();
+    entries.sort_by(|(one, _), (other, _)| one.cmp(other));
     Ok(entries)
 }
 
 /// Hidden files and folders, and notes to the reader, are no captures.
-fn is_skipped(entry: &Path) -> bool {
-    let name = entry.file_name().unwrap_or(OsStr::new(""));
+fn is_skipped(name: &OsStr) -> bool {
     name.as_encoded_bytes().starts_with(b".") || name == "README.md"
 }

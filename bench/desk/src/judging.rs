@@ -7,15 +7,16 @@ use std::fs::File;
 use std::io::{self, Read};
 use std::path::Path;
 use std::sync::atomic::{AtomicUsize, Ordering};
-use std::sync::mpsc::{channel, Receiver, RecvTimeoutError, Sender};
-use std::thread::{scope, Builder};
+use std::sync::mpsc::{channel, Receiver, Sender, TryRecvError};
+use std::thread::{scope, sleep, Builder};
 use std::time::Duration;
 
 /// The stack of a thread that judges: the library's call needs less than 256 KiB, and std some more.
 const STACK: usize = 512 * 1024;
 
-/// The listener hears of the run at least this often.
-const PATIENCE: Duration = Duration::from_millis(200);
+/// How long the listener's thread sleeps before it looks at what has come: being woken for each file would take
+/// longer than judging a small one.
+const PAUSE: Duration = Duration::from_millis(1);
 
 /// What came of a file.
 pub enum Outcome {
@@ -36,7 +37,7 @@ pub struct Terms<'a> {
 pub trait Listener {
     /// This came of the next file, in the order of the files.
     fn outcome(&mut self, path: &Path, outcome: &Outcome);
-    /// So many files are done.
+    /// So many files are done, and what has come by now is told.
     fn progress(&mut self, done: usize);
 }
 
@@ -62,10 +63,11 @@ pub fn judge_all(files: &[Found], terms: &Terms, listener: &mut impl Listener) -
 
 /// Judges the next file that no one has taken, up to the last.
 fn work(files: &[Found], next: &AtomicUsize, terms: &Terms, sender: Sender<(usize, Outcome)>) {
+    let mut room = Vec::with_capacity(LONGEST_FILE + 1);
     loop {
         let at = next.fetch_add(1, Ordering::Relaxed);
         let Some(found) = files.get(at) else { return };
-        if sender.send((at, outcome(found, terms))).is_err() {
+        if sender.send((at, outcome(found, terms, &mut room))).is_err() {
             return;
         }
     }
@@ -79,41 +81,47 @@ fn tell(
 ) -> io::Result<()> {
     let mut early = BTreeMap::new();
     let mut told = 0;
-    while told < files.len() {
-        match outcomes.recv_timeout(PATIENCE) {
-            Ok((at, outcome)) => drop(early.insert(at, outcome)),
-            Err(RecvTimeoutError::Timeout) => {}
-            Err(RecvTimeoutError::Disconnected) => {
-                return Err(io::Error::other("a judging thread has ended early"))
+    loop {
+        let ended = loop {
+            match outcomes.try_recv() {
+                Ok((at, outcome)) => drop(early.insert(at, outcome)),
+                Err(error) => break error == TryRecvError::Disconnected,
             }
-        }
+        };
         while let Some(outcome) = early.remove(&told) {
             listener.outcome(files[told].path(), &outcome);
             told += 1;
         }
         listener.progress(told + early.len());
+        if told == files.len() {
+            return Ok(());
+        }
+        if ended {
+            return Err(io::Error::other("a judging thread has ended early"));
+        }
+        sleep(PAUSE);
     }
-    Ok(())
 }
 
-fn outcome(found: &Found, terms: &Terms) -> Outcome {
-    let file = match found {
-        Found::File(path) => read(path).map_err(|error| error.to_string()),
+/// What comes of a file, whose bytes are read into `room`.
+fn outcome(found: &Found, terms: &Terms, room: &mut Vec<u8>) -> Outcome {
+    let read = match found {
+        Found::File(path) => read(path, room).map_err(|error| error.to_string()),
         Found::Unreadable(_, why) => Err(why.clone()),
     };
-    match file {
-        Ok(file) => {
-            let answer = |model: &Model| (*model, judge(&file, *model, terms.budget));
+    match read {
+        Ok(()) => {
+            let answer = |model: &Model| (*model, judge(room, *model, terms.budget));
             Outcome::Judged(terms.models.iter().map(answer).collect())
         }
         Err(why) => Outcome::Unreadable(why),
     }
 }
 
-/// A file's bytes, up to one more than a capture can have: it is then refused whatever follows.
-fn read(path: &Path) -> io::Result<Vec<u8>> {
-    let mut bytes = Vec::new();
+/// Reads a file, up to one byte more than a capture can have: it is then refused whatever follows.
+fn read(path: &Path, room: &mut Vec<u8>) -> io::Result<()> {
     let most = LONGEST_FILE as u64 + 1;
-    File::open(path)?.take(most).read_to_end(&mut bytes)?;
-    Ok(bytes)
+    room.clear();
+    File::open(path)?.take(most).read_to_end(room)?;
+    Ok(())
 }

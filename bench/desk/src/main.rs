@@ -17,7 +17,7 @@ use tally::{GREEN, TROUBLE};
 fn main() -> ExitCode {
     let status = match arguments::parse(std::env::args_os().skip(1)) {
         Ok(Asked::Help) => {
-            output::print(include_str!("help.txt").trim_end());
+            output::print(include_str!("help.txt"));
             GREEN
         }
         Ok(Asked::Judge(options)) => judge(&options),

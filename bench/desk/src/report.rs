@@ -19,6 +19,8 @@ pub struct Report<'a> {
     colours: bool,
     progress: Progress,
     tally: Tally,
+    /// Lines that are still to be printed: many at once are printed as quickly as one.
+    waiting: String,
 }
 
 impl<'a> Report<'a> {
@@ -30,20 +32,35 @@ impl<'a> Report<'a> {
             colours: io::stdout().is_terminal() && !no_colour,
             progress: Progress::new(files, !options.quiet),
             tally: Tally::default(),
+            waiting: String::new(),
         }
     }
 
     /// Ends the report, where so many files and folders were skipped, and hands the counts on.
     pub fn summarise(mut self, skipped: usize) -> Tally {
-        self.progress.clear();
         if !self.options.quiet {
-            print(&if self.options.json {
+            self.add(&if self.options.json {
                 json::summary(&self.tally, &self.options.models, skipped)
             } else {
                 text::summary(&self.tally, &self.options.models, skipped, self.colours)
             });
         }
+        self.print_waiting();
+        self.progress.clear();
         self.tally
+    }
+
+    fn add(&mut self, line: &str) {
+        self.waiting += line;
+        self.waiting.push('\n');
+    }
+
+    fn print_waiting(&mut self) {
+        if !self.waiting.is_empty() {
+            self.progress.clear();
+            print(&self.waiting);
+            self.waiting.clear();
+        }
     }
 
     /// The lines on a file, without those that were not asked for.
@@ -72,13 +89,11 @@ impl Listener for Report<'_> {
     fn outcome(&mut self, path: &Path, outcome: &Outcome) {
         self.tally.add(outcome);
         let lines = self.lines(path, outcome);
-        if !lines.is_empty() {
-            self.progress.clear();
-        }
-        lines.iter().for_each(|line| print(line));
+        lines.iter().for_each(|line| self.add(line));
     }
 
     fn progress(&mut self, done: usize) {
+        self.print_waiting();
         self.progress.show(done);
     }
 }

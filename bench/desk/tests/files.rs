@@ -4,8 +4,12 @@ mod common;
 
 use common::{folder, run, run_in, write, GREEN, RED};
 use std::fs;
+use std::io::{BufRead, BufReader};
 use std::os::unix::fs::symlink;
 use std::process::{Command, Stdio};
+use std::sync::mpsc::channel;
+use std::thread::spawn;
+use std::time::Duration;
 
 /// The paths of the lines on files.
 fn paths(stdout: &str) -> Vec<&str> {
@@ -200,6 +204,25 @@ fn help_tells_every_option_and_status() {
     ] {
         assert!(ran.stdout.contains(told), "{told}");
     }
+}
+
+#[test]
+fn a_line_is_printed_while_a_later_file_is_still_awaited() {
+    let top = folder("awaited");
+    write(&top, "a.raw", GREEN);
+    let mut command = Command::new(env!("CARGO_BIN_EXE_kilteshva"));
+    command.args(["a.raw", "/dev/stdin"]).current_dir(&top);
+    let child = command.stdin(Stdio::piped()).stdout(Stdio::piped()).spawn();
+    let mut child = child.expect("the command");
+    let stdout = child.stdout.take().expect("its report");
+    let (sender, first) = channel();
+    spawn(move || sender.send(BufReader::new(stdout).lines().next()));
+    let first = first.recv_timeout(Duration::from_secs(20));
+    // Only now does the second file end.
+    drop(child.stdin.take());
+    child.wait().expect("an exit");
+    let line = first.expect("a line in time").expect("a line");
+    assert!(line.expect("text").starts_with("Order      a.raw: "));
 }
 
 #[test]

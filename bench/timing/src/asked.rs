@@ -1,16 +1,13 @@
 //! Histories that both sides are asked to judge, turn and turn about, with the largest budget.
 
-use crate::family::Family;
-use crate::histories::History;
 use crate::port::{Judge, Judged, Verdict};
-use crate::summary::Measured;
-use crate::testers::{Model, Tester};
-use crate::turns::{least, nanoseconds};
+use timing::family::Family;
+use timing::histories::History;
+use timing::summary::Measured;
+use timing::testers::{Model, Tester};
+use timing::turns::{enough, least, nanoseconds};
 
 const TURNS: usize = 7;
-
-/// What is timed at once takes this many nanoseconds at least, far more than reading the clock.
-const SPAN: f64 = 100_000.0;
 
 const LARGEST: u64 = u64::MAX;
 
@@ -70,15 +67,6 @@ impl<F: Family> Asked<F> {
     fn rust(&self, times: u64) -> u64 {
         (0..times).map(|_| u64::from(self.tester.has_order())).sum()
     }
-}
-
-/// How many times fill the span.
-fn enough(run: impl Fn(u64) -> u64) -> u64 {
-    let mut times = 1;
-    while nanoseconds(1, || run(times)) < SPAN {
-        times *= 2;
-    }
-    times
 }
 
 /// Nanoseconds that each side takes to judge all of these, each once: no search is helped by one of the same

@@ -3,8 +3,8 @@
 //! Bit 0 says invoke or return, the next three the thread, the rest a value. The operation is Read at 0 and
 //! else Write, the return WriteOk at 0 and else ReadOk.
 
-use crate::random::next;
 use stateright::semantics::register::{RegisterOp, RegisterRet};
+use timing::random::next;
 
 /// Threads of a list, and its operations, each an invoke and a return.
 const THREADS: usize = 4;

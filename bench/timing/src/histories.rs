@@ -5,6 +5,9 @@ use crate::family::Family;
 use crate::random::{next, pick};
 use crate::testers::{Model, Tester};
 
+/// The seed of all that is judged.
+pub const SEED: u64 = 2026;
+
 const THREADS: usize = 4;
 
 /// How often, of a hundred times, an operation is begun while others are under way: about six in ten
@@ -54,6 +57,12 @@ pub fn histories<F: Family>(count: usize, operations: usize, seed: u64) -> Vec<H
         _ => broken(operations, &mut random),
     };
     (0..count).map(draw).collect()
+}
+
+/// Some more, none of them broken: no search is needed to draw them, however many operations they have.
+pub fn unbroken<F: Family>(count: usize, operations: usize, seed: u64) -> Vec<History<F>> {
+    let mut random = seed;
+    (0..count).map(|_| good(operations, &mut random)).collect()
 }
 
 /// Draws anew until the change takes every order away.

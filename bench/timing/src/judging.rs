@@ -1,19 +1,15 @@
 //! Judging: the search on a tester that has been fed, beside the Rust's `serialized_history`.
 
 use crate::asked::{self, Asked};
-use crate::family::Family;
-use crate::histories::histories;
-use crate::overlap;
-use crate::summary::Summary;
-use crate::testers::Model;
 use stateright::semantics::register::Register;
-
-const SEED: u64 = 2026;
+use timing::family::Family;
+use timing::histories::{histories, SEED};
+use timing::overlap;
+use timing::summary::Summary;
+use timing::testers::MODELS;
 
 /// A history whose search takes more attempts than this has no place in the growth table.
 const LONG: u64 = 250_000;
-
-const MODELS: [Model; 2] = [Model::Linearizable, Model::Sequential];
 
 pub fn print() {
     thousand::<Register<i32>>();

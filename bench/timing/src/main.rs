@@ -2,17 +2,10 @@
 
 mod asked;
 mod events;
-mod family;
-mod histories;
 mod judging;
-mod overlap;
 mod port;
-mod random;
 mod recording;
 mod rust;
-mod summary;
-mod testers;
-mod turns;
 
 use std::process::ExitCode;
 

@@ -1,8 +1,8 @@
 //! The port: the exported functions of the crate `timing`.
 
-use crate::family::Family;
-use crate::histories::History;
-use crate::testers::Model;
+use timing::family::Family;
+use timing::histories::History;
+use timing::testers::Model;
 
 #[link(name = "timing", kind = "static")]
 extern "C" {

@@ -1,7 +1,7 @@
 //! Recording: feeding events beside the Rust's own feeding of the same events, and a single event.
 
-use crate::turns::{least, nanoseconds};
 use crate::{events, port, rust};
+use timing::turns::{least, nanoseconds};
 
 const TURNS: usize = 201;
 

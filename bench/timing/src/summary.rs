@@ -60,6 +60,29 @@ impl Summary {
         )
     }
 
+    /// How the two sides compare, in the time of a history.
+    pub fn compared(&self) -> String {
+        format!(
+            "port {:.0} ns, Rust {:.0} ns, {:.2} times as fast (median {:.2})",
+            self.mean(self.port),
+            self.mean(self.rust),
+            self.rust / self.port,
+            self.median,
+        )
+    }
+
+    /// The same for an event, where a history has so many.
+    pub fn of_an_event(&self, events: usize) -> String {
+        let [port, rust] = [self.port, self.rust].map(|sum| self.mean(sum) / events as f64);
+        format!("port {port:.0} ns, Rust {rust:.0} ns an event")
+    }
+
+    /// What the histories come to.
+    pub fn verdicts(&self) -> String {
+        let attempts = self.mean(self.attempts);
+        format!("{} have an order, {attempts:.0} attempts each", self.orders)
+    }
+
     fn mean(&self, sum: f64) -> f64 {
         sum / self.count as f64
     }

@@ -23,6 +23,8 @@ impl Display for Model {
     }
 }
 
+pub const MODELS: [Model; 2] = [Model::Linearizable, Model::Sequential];
+
 pub enum Tester<F: Family> {
     Sequential(SequentialConsistencyTester<u32, F>),
     Linearizable(LinearizabilityTester<u32, F>),
@@ -41,11 +43,15 @@ impl<F: Family> Tester<F> {
         }
     }
 
-    pub fn has_order(&self) -> bool {
+    pub fn order(&self) -> Option<Vec<(F::Op, F::Ret)>> {
         match self {
-            Tester::Sequential(tester) => black_box(tester.serialized_history()).is_some(),
-            Tester::Linearizable(tester) => black_box(tester.serialized_history()).is_some(),
+            Tester::Sequential(tester) => tester.serialized_history(),
+            Tester::Linearizable(tester) => tester.serialized_history(),
         }
+    }
+
+    pub fn has_order(&self) -> bool {
+        black_box(self.order()).is_some()
     }
 }
 

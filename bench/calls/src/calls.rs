@@ -1,0 +1,96 @@
+//! The exported call, from a file's bytes to the answer's, beside the Rust from the same bytes to its order.
+
+use crate::called::{decided_by, one_pass, Called, File};
+use crate::files::{self, Written};
+use crate::reader::Read;
+use stateright::semantics::register::Register;
+use timing::histories::{histories, unbroken, History, SEED};
+use timing::summary::{Measured, Summary};
+use timing::testers::MODELS;
+
+/// A file whose search takes more attempts than this has no place in the growth table.
+const LONG: u64 = 250_000;
+
+pub fn print() {
+    thousand::<Register<i32>>();
+    thousand::<Vec<i32>>();
+    for operations in [8, 12, 16, 24] {
+        growth::<Register<i32>>(operations);
+        growth::<Vec<i32>>(operations);
+    }
+    for operations in [32, 48, 64] {
+        loading::<Register<i32>>(operations);
+        loading::<Vec<i32>>(operations);
+    }
+}
+
+/// A thousand files of twelve operations.
+fn thousand<F: Written + Read>() {
+    let histories = histories::<F>(1000, 12, SEED);
+    println!("{}:", described(&histories, 12));
+    for model in MODELS {
+        let called = decided_by(u64::MAX, &histories, model);
+        let [whole, loading] = summaries(&called);
+        println!("  {model}: {}", whole.verdicts());
+        println!("    whole call: {}", whole.compared());
+        println!("    loading alone: {}", loading.compared());
+        let [whole, loading] = one_pass(&called).map(passed);
+        println!("    one pass: whole call {whole}; loading alone {loading}");
+    }
+}
+
+/// Two hundred files of so many operations.
+fn growth<F: Written + Read>(operations: usize) {
+    let histories = histories::<F>(200, operations, SEED);
+    println!("{}:", described(&histories, operations));
+    for model in MODELS {
+        let called = decided_by(LONG, &histories, model);
+        let [whole, loading] = summaries(&called);
+        println!("  {model}: {}", whole.means());
+        println!("    loading alone: {}", loaded(&loading, operations));
+    }
+}
+
+/// Two hundred files of so many operations that are loaded, and not searched.
+fn loading<F: Written + Read>(operations: usize) {
+    let histories = unbroken::<F>(200, operations, SEED);
+    println!("{}:", described(&histories, operations));
+    for model in MODELS {
+        let measured = |history| {
+            let [port, rust] = File::of(history, model).loading();
+            Measured {
+                has_order: true,
+                attempts: 0.0,
+                port,
+                rust,
+            }
+        };
+        let loading = Summary::of(histories.iter().map(measured).collect());
+        println!("  {model}: loading alone: {}", loaded(&loading, operations));
+    }
+}
+
+fn described<F: Written>(histories: &[History<F>], operations: usize) -> String {
+    let bytes: usize = histories.iter().map(|one| files::bytes(one).len()).sum();
+    let (name, count) = (F::NAME, histories.len());
+    let each = bytes as f64 / count as f64;
+    format!("{count} {name} files of {operations} operations, of {each:.0} bytes")
+}
+
+/// Of the whole call, and of loading alone.
+fn summaries<F: Written + Read>(called: &[Called<F>]) -> [Summary; 2] {
+    let measured: Vec<[Measured; 2]> = called.iter().map(Called::measured).collect();
+    let (whole, loading) = measured.into_iter().map(<(_, _)>::from).unzip();
+    [Summary::of(whole), Summary::of(loading)]
+}
+
+fn loaded(loading: &Summary, operations: usize) -> String {
+    let event = loading.of_an_event(2 * operations);
+    format!("{}; {event}", loading.compared())
+}
+
+fn passed(times: [f64; 2]) -> String {
+    let [port, rust] = times.map(|nanoseconds| nanoseconds / 1e6);
+    let ratio = rust / port;
+    format!("port {port:.2} ms, Rust {rust:.2} ms, {ratio:.2} times as fast")
+}
