@@ -1,8 +1,8 @@
 //! An answer, held to what it should be.
 
-use crate::calls::{Batch, Call};
-use crate::judge::Answer;
-use crate::rust::{Says, Search};
+use cases::answer::Answer;
+use cases::calls::{Batch, Call};
+use cases::due::due;
 use std::fmt::{self, Write};
 
 /// An answer that is not what it should be, with all that is needed to ask again.
@@ -18,15 +18,12 @@ pub struct Difference {
 
 /// What is wrong with an answer, if anything.
 pub fn compare(batch: &Batch, call: &Call, answer: &Answer) -> Option<Difference> {
-    let reference = crate::judge::answer(reference::host_call, batch, call);
-    let subject = &batch.subjects[call.subject];
-    let expected = if *answer != reference {
-        format!("reference: {}", shown(&reference))
-    } else if !agrees(&subject.rust, call, answer) {
-        format!("stateright: {:?}", subject.rust)
-    } else {
-        return None;
+    let expected = match due(batch, call) {
+        Ok(due) if due == *answer => return None,
+        Ok(due) => format!("reference: {}", shown(&due)),
+        Err(says) => format!("stateright: {says:?}"),
     };
+    let subject = &batch.subjects[call.subject];
     Some(Difference {
         file: subject.file.clone(),
         model: call.model,
@@ -35,24 +32,6 @@ pub fn compare(batch: &Batch, call: &Call, answer: &Answer) -> Option<Difference
         answer: answer.clone(),
         expected,
     })
-}
-
-/// Whether an answer says what stateright says, as far as that goes: which event recording refused, and,
-/// where the budget covers the search, whether there is an order and which is the first.
-fn agrees(rust: &Says, call: &Call, answer: &Answer) -> bool {
-    if answer.result != 0 {
-        return true;
-    }
-    let [verdict, number, length] = [0, 1, 2].map(|at| answer.buffer[at]);
-    let refused = matches!(number, 4 | 5).then(|| rust.fed - 1);
-    let order = answer.buffer[15..].get(..length.into());
-    let search = &rust.searches[call.model as usize];
-    let same_verdict = match search {
-        Search::Order(first) if call.covered => verdict == 0 && order == Some(first),
-        Search::NoOrder if call.covered => verdict == 1,
-        _ => true,
-    };
-    rust.refused == refused && same_verdict
 }
 
 fn shown(answer: &Answer) -> String {
@@ -80,57 +59,32 @@ impl fmt::Display for Difference {
 #[cfg(test)]
 mod tests {
     use super::*;
-    use crate::files::Kind;
-    use crate::judge;
     use capture::{Capture, Object, Random, RegisterOp, RegisterRet};
+    use cases::answer::answer;
+    use cases::calls::Manner;
+    use cases::files::Kind;
+    use cases::rust::Search;
 
-    /// Two overlapping Writes: the first order is 0 1, not 1 0.
-    fn writes() -> Capture {
-        Capture::of(Object::Register(0))
-            .invoke(1, RegisterOp::Write(1))
-            .invret(0, RegisterOp::Write(2), RegisterRet::WriteOk)
-            .returns(1, RegisterRet::WriteOk)
-    }
-
-    /// How many right answers are found to differ when stateright says something else.
-    fn found(capture: Capture, otherwise: impl Fn(&mut Says)) -> usize {
+    #[test]
+    fn what_stateright_does_not_say_is_a_difference() {
+        let write = Capture::of(Object::Register(0)).invret(
+            0,
+            RegisterOp::Write(1),
+            RegisterRet::WriteOk,
+        );
         let mut batch = Batch::default();
-        let mut random = Random::new(1);
-        batch.add(Kind::Honest, capture.bytes(), &mut random);
-        otherwise(&mut batch.subjects[0].rust);
-        let differs = |call: &&Call| {
-            let answer = judge::answer(reference::host_call, &batch, call);
-            compare(&batch, call, &answer).is_some()
+        let manner = Manner {
+            limit: 100,
+            one_budget: false,
+            odd_calls: false,
         };
-        batch.calls.iter().filter(differs).count()
-    }
-
-    #[test]
-    fn stateright_says_the_same() {
-        assert_eq!(found(writes(), |_| {}), 0);
-    }
-
-    #[test]
-    fn another_first_order_is_a_difference() {
-        let other = Search::Order(vec![1, 0]);
-        let otherwise = |says: &mut Says| says.searches = [other.clone(), other.clone()];
-        assert!(found(writes(), otherwise) > 0);
-    }
-
-    #[test]
-    fn another_verdict_is_a_difference() {
-        let otherwise = |says: &mut Says| says.searches = [Search::NoOrder, Search::NoOrder];
-        assert!(found(writes(), otherwise) > 0);
-    }
-
-    #[test]
-    fn another_refusal_in_recording_is_a_difference() {
-        assert!(found(writes(), |says| says.refused = Some(3)) > 0);
-        let twice = writes()
-            .invoke(0, RegisterOp::Read)
-            .invoke(0, RegisterOp::Read);
-        assert_eq!(found(twice.clone(), |_| {}), 0);
-        assert!(found(twice.clone(), |says| says.refused = None) > 0);
-        assert!(found(twice, |says| says.refused = Some(4)) > 0);
+        batch.add(Kind::Honest, write.bytes(), manner, &mut Random::new(1));
+        let differ = |batch: &Batch| {
+            let right = |call| compare(batch, call, &answer(reference::host_call, batch, call));
+            batch.calls.iter().filter_map(right).count()
+        };
+        assert_eq!(differ(&batch), 0);
+        batch.subjects[0].rust.searches = [Search::NoOrder, Search::NoOrder];
+        assert!(differ(&batch) > 0);
     }
 }

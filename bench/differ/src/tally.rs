@@ -1,9 +1,9 @@
 //! How many answers there were, by the kind of their file and what they were.
 
-use crate::calls::{Batch, Call};
-use crate::files::Kind;
-use crate::judge::Answer;
-use crate::rust::Search;
+use cases::answer::Answer;
+use cases::calls::{Batch, Call};
+use cases::files::Kind;
+use cases::rust::Search;
 use std::collections::BTreeMap;
 use std::fmt;
 

@@ -1,7 +1,7 @@
 //! A run finds what is wrong with a judge: each of these differs from the reference in one thing.
 
 use capture::{Call, Capture, Event};
-use differ::judge::Judge;
+use cases::answer::Judge;
 use differ::run::run;
 use reference::{host_call, load, ANSWER};
 

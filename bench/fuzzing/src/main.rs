@@ -2,7 +2,7 @@
 //! differential run makes, each in several calls; those of long files stand in a folder of their own.
 
 use capture::Random;
-use differ::files::Kind;
+use cases::files::Kind;
 use std::fs;
 use std::io;
 use std::path::Path;

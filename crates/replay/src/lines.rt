@@ -3,6 +3,7 @@ use crate::calls;
 use crate::comparison::Comparison;
 use crate::fields::first;
 use crate::fields::from;
+use crate::files;
 use crate::numbers::Reading;
 use crate::objects;
 use crate::proposals;
@@ -13,6 +14,7 @@ use crate::verdicts;
 use crate::verdicts::Model;
 use crate::verdicts::model_at;
 use crate::which::Call;
+use crate::which::Group;
 use crate::which::Lead;
 use crate::which::List;
 use crate::which::lead_at;
@@ -49,6 +51,26 @@ pub fn with_read(
     line: &[u64],
 ) -> Lived {
     let numbers = numbers_of(reading, line);
+    match list {
+        List::Files => Lived {
+            line: called(numbers),
+            live,
+        },
+        List::Objects => led(list, is_started, live, numbers),
+        List::Events => led(list, is_started, live, numbers),
+        List::Histories => led(list, is_started, live, numbers),
+        List::Orders => led(list, is_started, live, numbers),
+    }
+}
+
+// A line of files is one call of the host.
+fn called(numbers: &[u64]) -> Line {
+    let comparison = files::compared(numbers);
+    answer(files::group(numbers), files::outcome(numbers), comparison)
+}
+
+// A line of any other list begins with a number that says what it is about.
+fn led(list: List, is_started: bool, live: Live, numbers: &[u64]) -> Lived {
     let fields = from(numbers, 1);
     match lead_at(numbers) {
         Lead::Unknown => unreadable(live),
@@ -98,6 +120,7 @@ fn start(list: List, begun: Comparison) -> Line {
         List::Events => taken(begun),
         List::Histories => taken(begun),
         List::Orders => taken(begun),
+        List::Files => Line::Unreadable,
     }
 }
 
@@ -118,7 +141,7 @@ fn answered(list: List, live: Live, call: Call, fields: &[u64]) -> Lived {
             let compared = calls::asked(call, object, fields);
             let comparison = compared.comparison;
             let object = compared.object;
-            let line = answer(kind, call, comparison);
+            let line = answer(group_of(kind), call, comparison);
             let live = Live { object, sequence };
             Lived { line, live }
         }
@@ -126,12 +149,13 @@ fn answered(list: List, live: Live, call: Call, fields: &[u64]) -> Lived {
             let compared = sequence.fed(call, kind, fields);
             let comparison = compared.comparison;
             let sequence = compared.sequence;
-            let line = answer(kind, call, comparison);
+            let line = answer(group_of(kind), call, comparison);
             let live = Live { object, sequence };
             Lived { line, live }
         }
         List::Histories => recorded(list, live, call, fields),
         List::Orders => recorded(list, live, call, fields),
+        List::Files => unreadable(live),
     }
 }
 
@@ -158,6 +182,7 @@ fn compared(list: List, testers: Testers, kind: Kind, fields: &[u64]) -> Compari
         List::Events => Comparison::Unreadable,
         List::Histories => verdicts::compared(testers, kind, fields),
         List::Orders => proposals::compared(testers, fields),
+        List::Files => Comparison::Unreadable,
     }
 }
 
@@ -180,22 +205,30 @@ fn fed(live: Live, call: Call, fields: &[u64]) -> Lived {
 // The first call stands for sequential consistency, the second for linearizability.
 fn by_model(kind: Kind, model: Model, comparison: Comparison) -> Line {
     match model {
-        Model::Sequential => answer(kind, Call::One, comparison),
-        Model::Linearizable => answer(kind, Call::Two, comparison),
+        Model::Sequential => answer(group_of(kind), Call::One, comparison),
+        Model::Linearizable => answer(group_of(kind), Call::Two, comparison),
         Model::Unknown => Line::Unreadable,
     }
 }
 
-fn answer(kind: Kind, call: Call, comparison: Comparison) -> Line {
+fn group_of(kind: Kind) -> Group {
+    match kind {
+        Kind::Register(_) => Group::First,
+        Kind::WORegister(_) => Group::Second,
+        Kind::Vec(_) => Group::Third,
+    }
+}
+
+fn answer(group: Group, call: Call, comparison: Comparison) -> Line {
     match comparison {
         Comparison::Unreadable => Line::Unreadable,
         Comparison::Agrees => Line::Answer {
-            kind,
+            group,
             call,
             agrees: true,
         },
         Comparison::Differs => Line::Answer {
-            kind,
+            group,
             call,
             agrees: false,
         },

@@ -6,6 +6,7 @@ mod codes;
 mod comparison;
 mod events;
 mod fields;
+mod files;
 mod lines;
 mod list;
 mod numbers;
@@ -41,4 +42,5 @@ fn main() {
     replay(List::Events, b"events.txt");
     replay(List::Histories, b"histories.txt");
     replay(List::Orders, b"orders.txt");
+    replay(List::Files, b"files.txt");
 }

@@ -1,20 +1,20 @@
-// What was compared, counted by family and call.
+// What was compared, counted by group and call.
 use crate::which::Call;
-use semantics::Kind;
+use crate::which::Group;
 
 // What a line came to.
 pub enum Line {
     Start,
     Event,
     Answer {
-        kind: Kind,
+        group: Group,
         call: Call,
         agrees: bool,
     },
     Unreadable,
 }
 
-// The answers of one family, by the number of the call.
+// The answers of one group, by the number of the call.
 pub struct Answers {
     pub ones: u64,
     pub twos: u64,
@@ -27,9 +27,9 @@ pub struct Tally {
     pub is_started: bool,
     pub lines: u64,
     pub starts: u64,
-    pub register: Answers,
-    pub write_once: Answers,
-    pub stack: Answers,
+    pub first: Answers,
+    pub second: Answers,
+    pub third: Answers,
     pub unreadable: u64,
     // Lines that were unreadable or differed.
     pub wrong: u64,
@@ -91,26 +91,26 @@ impl Tally {
             is_started: false,
             lines: 0,
             starts: 0,
-            register: none,
-            write_once: none,
-            stack: none,
+            first: none,
+            second: none,
+            third: none,
             unreadable: 0,
             wrong: 0,
         }
     }
 
     pub fn asked(self) -> u64 {
-        let register = self.register;
-        let write_once = self.write_once;
-        let stack = self.stack;
-        sum(sum(register.asked(), write_once.asked()), stack.asked())
+        let first = self.first;
+        let second = self.second;
+        let third = self.third;
+        sum(sum(first.asked(), second.asked()), third.asked())
     }
 
     pub fn agreed(self) -> u64 {
-        let register = self.register;
-        let write_once = self.write_once;
-        let stack = self.stack;
-        sum(sum(register.agreed, write_once.agreed), stack.agreed)
+        let first = self.first;
+        let second = self.second;
+        let third = self.third;
+        sum(sum(first.agreed, second.agreed), third.agreed)
     }
 
     // One line more.
@@ -120,12 +120,16 @@ impl Tally {
             Line::Start => self.with_start(),
             Line::Event => self,
             Line::Unreadable => self.with_unreadable(),
-            Line::Answer { kind, call, agrees } => {
+            Line::Answer {
+                group,
+                call,
+                agrees,
+            } => {
                 if agrees {
-                    return self.with_answer(kind, call, true);
+                    return self.with_answer(group, call, true);
                 }
                 self.wrong = more(self.wrong);
-                self.with_answer(kind, call, false)
+                self.with_answer(group, call, false)
             }
         }
     }
@@ -143,22 +147,22 @@ impl Tally {
         self
     }
 
-    fn with_answer(mut self, kind: Kind, call: Call, agrees: bool) -> Self {
-        match kind {
-            Kind::Register(_) => {
-                let answers = self.register;
+    fn with_answer(mut self, group: Group, call: Call, agrees: bool) -> Self {
+        match group {
+            Group::First => {
+                let answers = self.first;
                 let answers = answers.with(call, agrees);
-                self.register = answers;
+                self.first = answers;
             }
-            Kind::WORegister(_) => {
-                let answers = self.write_once;
+            Group::Second => {
+                let answers = self.second;
                 let answers = answers.with(call, agrees);
-                self.write_once = answers;
+                self.second = answers;
             }
-            Kind::Vec(_) => {
-                let answers = self.stack;
+            Group::Third => {
+                let answers = self.third;
                 let answers = answers.with(call, agrees);
-                self.stack = answers;
+                self.third = answers;
             }
         }
         self

@@ -3,6 +3,7 @@ use crate::tally::Answers;
 use crate::tally::Line;
 use crate::tally::Tally;
 use crate::which::Call;
+use crate::which::Group;
 use crate::which::List;
 use libc::STDOUT_FILENO;
 
@@ -32,7 +33,7 @@ pub fn say_line(tally: Tally, line: Line) {
         Line::Event => {}
         Line::Unreadable => name_line(tally, b": unreadable\n"),
         Line::Answer {
-            kind: _,
+            group: _,
             call: _,
             agrees,
         } => {
@@ -56,12 +57,13 @@ fn say_call(list: List, call: Call) {
             Call::Two => say(b" on_return"),
             Call::Three => say(b" on_invret"),
         },
-        List::Histories => say_model(call),
-        List::Orders => say_model(call),
+        List::Histories => say_judge(call),
+        List::Orders => say_judge(call),
+        List::Files => say_outcome(call),
     }
 }
 
-fn say_model(call: Call) {
+fn say_judge(call: Call) {
     match call {
         Call::One => say(b" sequential consistency"),
         Call::Two => say(b" linearizability"),
@@ -69,17 +71,60 @@ fn say_model(call: Call) {
     }
 }
 
-fn say_starts(list: List) {
+fn say_outcome(call: Call) {
+    match call {
+        Call::One => say(b" judged"),
+        Call::Two => say(b" files refused"),
+        Call::Three => say(b" calls refused"),
+    }
+}
+
+// How often the list starts anew; that of files has no starts.
+fn say_starts(list: List, starts: u64) {
+    match list {
+        List::Objects => say_number(starts),
+        List::Events => say_number(starts),
+        List::Histories => say_number(starts),
+        List::Orders => say_number(starts),
+        List::Files => {}
+    }
     match list {
         List::Objects => say(b" objects, "),
         List::Events => say(b" sequences to both testers, "),
         List::Histories => say(b" histories under three budgets, "),
         List::Orders => say(b" histories with proposed orders, "),
+        List::Files => {}
     }
 }
 
-fn say_answers(list: List, family: &[u8], answers: Answers) {
-    say(family);
+fn say_family(group: Group) {
+    match group {
+        Group::First => say(b"register"),
+        Group::Second => say(b"write-once register"),
+        Group::Third => say(b"stack"),
+    }
+}
+
+fn say_model(group: Group) {
+    match group {
+        Group::First => say(b"sequential consistency"),
+        Group::Second => say(b"linearizability"),
+        Group::Third => say(b"no model"),
+    }
+}
+
+fn say_group(list: List, group: Group) {
+    match list {
+        List::Objects => say_family(group),
+        List::Events => say_family(group),
+        List::Histories => say_family(group),
+        List::Orders => say_family(group),
+        List::Files => say_model(group),
+    }
+}
+
+fn say_answers(list: List, group: Group, answers: Answers) {
+    say_group(list, group);
     say(b": ");
     say_number(answers.ones);
     say_call(list, Call::One);
@@ -97,13 +142,12 @@ fn say_answers(list: List, family: &[u8], answers: Answers) {
 }
 
 pub fn say_tally(list: List, tally: Tally) {
-    say_answers(list, b"register", tally.register);
-    say_answers(list, b"write-once register", tally.write_once);
-    say_answers(list, b"stack", tally.stack);
+    say_answers(list, Group::First, tally.first);
+    say_answers(list, Group::Second, tally.second);
+    say_answers(list, Group::Third, tally.third);
     say_number(tally.lines);
     say(b" lines: ");
-    say_number(tally.starts);
-    say_starts(list);
+    say_starts(list, tally.starts);
     say_number(tally.agreed());
     say(b" of ");
     say_number(tally.asked());

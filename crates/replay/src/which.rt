@@ -6,9 +6,17 @@ pub enum List {
     Events,
     Histories,
     Orders,
+    Files,
 }
 
-// Each list has three calls, by their numbers.
+// What a list asks about in three parts: the families, or for files the models.
+pub enum Group {
+    First,
+    Second,
+    Third,
+}
+
+// Each list has three calls, by their numbers; that of files has three outcomes.
 pub enum Call {
     One,
     Two,

@@ -5,11 +5,6 @@ use crate::rust::{self, Says};
 use capture::Random;
 use reference::{judge, load, Loaded, Model, Verdict, ANSWER};
 
-/// Attempts that are made on most files to learn how many the search needs, and on one in so many.
-const ATTEMPTS: u64 = 5_000;
-const MANY_ATTEMPTS: u64 = 200_000;
-const ONE_IN: usize = 100;
-
 /// A file with what is known of it.
 pub struct Subject {
     pub kind: Kind,
@@ -28,6 +23,17 @@ pub struct Call {
     pub covered: bool,
 }
 
+/// How a file is judged.
+#[derive(Clone, Copy)]
+pub struct Manner {
+    /// Attempts that are made at most to learn how many the search needs.
+    pub limit: u64,
+    /// Whether each model gets one budget only, as the file is one of many that are alike.
+    pub one_budget: bool,
+    /// Whether some calls name no model, or come with another buffer than one that has just the answer's length.
+    pub odd_calls: bool,
+}
+
 /// Calls to be made, and the files that they are about.
 #[derive(Default)]
 pub struct Batch {
@@ -37,18 +43,17 @@ pub struct Batch {
 
 impl Batch {
     /// Adds a file with some calls: both models under the budgets that matter.
-    pub fn add(&mut self, kind: Kind, file: Vec<u8>, random: &mut Random) {
+    pub fn add(&mut self, kind: Kind, file: Vec<u8>, manner: Manner, random: &mut Random) {
         let loaded = load(&file);
-        let limit = match random.chance(1, ONE_IN) {
-            true => MANY_ATTEMPTS,
-            false => ATTEMPTS,
-        };
         let needs = [Model::Sequential, Model::Linearizable]
-            .map(|model| attempts_needed(&loaded, model, limit));
+            .map(|model| attempts_needed(&loaded, model, manner.limit));
         let subject = self.subjects.len();
         for (model, need) in (0..).zip(needs) {
-            for budget in budgets(kind, need, limit, random) {
-                let (model, buffer) = surroundings(model, random);
+            for budget in budgets(need, manner, random) {
+                let (model, buffer) = match manner.odd_calls {
+                    true => surroundings(model, random),
+                    false => (model, vec![0; ANSWER]),
+                };
                 self.calls.push(Call {
                     subject,
                     model,
@@ -75,9 +80,9 @@ fn attempts_needed(loaded: &Loaded, model: Model, limit: u64) -> Option<u64> {
     (judged.verdict != Verdict::Undecided).then_some(judged.attempts)
 }
 
-/// None, one short, exact, and a larger one; where the search is too long, the limit and less. A cut file is
-/// one of many and gets one of these.
-fn budgets(kind: Kind, need: Option<u64>, limit: u64, random: &mut Random) -> Vec<u64> {
+/// None, one short, exact, and a larger one; where the search is too long, the limit and less. One of these, where
+/// one will do.
+fn budgets(need: Option<u64>, manner: Manner, random: &mut Random) -> Vec<u64> {
     let any = random.draw() >> random.below(64);
     let budgets = match need {
         Some(0) => vec![0, any],
@@ -87,16 +92,16 @@ fn budgets(kind: Kind, need: Option<u64>, limit: u64, random: &mut Random) -> Ve
             let larger = random.pick(&[need + 1, u64::MAX, need.max(any), need.max(high)]);
             vec![0, need - 1, need, larger]
         }
-        None => vec![limit, any % limit],
+        None => vec![manner.limit, any % manner.limit],
     };
-    match kind {
-        Kind::Cut => vec![random.pick(&budgets)],
-        _ => budgets,
+    match manner.one_budget {
+        true => vec![random.pick(&budgets)],
+        false => budgets,
     }
 }
 
 /// Numbers that stand for no model; most have a 0 or a 1 in their lowest bits.
-const NO_MODELS: [u32; 9] = [2, 3, 255, 256, 257, 65_536, 65_537, 1 << 31, u32::MAX];
+pub const NO_MODELS: [u32; 9] = [2, 3, 255, 256, 257, 65_536, 65_537, 1 << 31, u32::MAX];
 
 /// Most often the model and a buffer that is long enough; at times another model, or a short buffer.
 fn surroundings(model: u32, random: &mut Random) -> (u32, Vec<u8>) {

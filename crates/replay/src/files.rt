@@ -1,0 +1,196 @@
+// A call of the host on a file, made and compared with what the list says of it.
+use crate::comparison::Comparison;
+use crate::comparison::judged;
+use crate::fields::first;
+use crate::fields::from;
+use crate::fields::natural;
+use crate::numbers::LONGEST;
+use crate::which::Call;
+use crate::which::Group;
+
+// The most zeros at the end of a file, room for the longest file, and for the longest buffer.
+const ZEROS: usize = 70000;
+
+const FILE: usize = LONGEST + ZEROS;
+
+const ROOM: usize = 100;
+
+// The bytes of an answer, and what stands in it where a thread number is unused.
+const ANSWER: usize = 79;
+
+const UNUSED: u8 = 255;
+
+// The verdict's number where the file is refused.
+const REFUSED: u64 = 4;
+
+// What a buffer holds at a place before the call.
+fn marker(place: usize) -> u8 {
+    (100 + place % 100) as u8
+}
+
+fn marked() -> [u8; ROOM] {
+    let mut buffer = [0u8; ROOM];
+    let mut i = 0;
+    while i < ROOM {
+        buffer[i] = marker(i);
+        i += 1;
+    }
+    buffer
+}
+
+// f1 … fn: the bytes that a file begins with. Behind them are zeros.
+fn file_at(bytes: &[u64]) -> [u8; FILE] {
+    let mut file = [0u8; FILE];
+    let mut i = 0;
+    while i < bytes.len() {
+        let byte = natural(bytes, i);
+        if i < FILE {
+            if byte <= 255 {
+                file[i] = byte as u8;
+            }
+        }
+        i += 1;
+    }
+    file
+}
+
+fn part(storage: &[u8], length: usize) -> &[u8] {
+    if length <= storage.len() {
+        return &storage[0..length];
+    }
+    &storage[..0]
+}
+
+fn are_bytes(numbers: &[u64]) -> bool {
+    let mut i = 0;
+    while i < numbers.len() {
+        if 255 < natural(numbers, i) {
+            return false;
+        }
+        i += 1;
+    }
+    true
+}
+
+// R k a1 … ak to the end of the line: whether it can be an answer.
+fn is_answer(said: &[u64]) -> bool {
+    let count = natural(said, 1);
+    if count <= ANSWER as u64 {
+        if said.len() as u64 == 2 + count {
+            return are_bytes(from(said, 2));
+        }
+    }
+    false
+}
+
+// Whether a buffer may hold this byte at a place after a call that has to return this number and to write
+// these bytes, up to the thread numbers that are unused.
+fn is_due(byte: u8, place: usize, number: u64, written: &[u64]) -> bool {
+    if number == 0 {
+        if place < written.len() {
+            return natural(written, place) == byte as u64;
+        }
+        if place < ANSWER {
+            return byte == UNUSED;
+        }
+    }
+    byte == marker(place)
+}
+
+fn holds(buffer: &[u8; ROOM], number: u64, written: &[u64]) -> bool {
+    let mut i = 0;
+    while i < ROOM {
+        let byte = buffer[i];
+        if is_due(byte, i, number, written) {
+            i += 1;
+        } else {
+            return false;
+        }
+    }
+    true
+}
+
+// Whether the call comes to what is said: R k a1 … ak.
+fn comes_to(file: &[u8], model: u32, budget: u64, room: usize, said: &[u64]) -> bool {
+    let number = natural(said, 0);
+    let mut buffer = marked();
+    if room <= ROOM {
+        let given = host::kilteshva_judge(file, model, budget, &mut buffer[0..room]);
+        if given as u64 == number {
+            return holds(&buffer, number, from(said, 2));
+        }
+    }
+    false
+}
+
+// The file, and of the line MODEL HIGH LOW ROOM and R k a1 … ak.
+fn asked(file: &[u8], fields: &[u64], said: &[u64]) -> Comparison {
+    let model = natural(fields, 0);
+    let high = natural(fields, 1);
+    let low = natural(fields, 2);
+    let room = natural(fields, 3);
+    if model <= u32::MAX as u64 {
+        if high <= u32::MAX as u64 {
+            if low <= u32::MAX as u64 {
+                if room <= ROOM as u64 {
+                    let budget = (high << 32) | low;
+                    return judged(comes_to(file, model as u32, budget, room as usize, said));
+                }
+            }
+        }
+    }
+    Comparison::Unreadable
+}
+
+// Z n f1 … fn R k a1 … ak: R and what follows.
+fn said_at(fields: &[u64]) -> &[u64] {
+    let count = natural(fields, 1);
+    if count <= LONGEST as u64 {
+        return from(from(fields, 2), count as usize);
+    }
+    from(fields, fields.len())
+}
+
+// MODEL HIGH LOW ROOM Z n f1 … fn R k a1 … ak
+pub fn compared(fields: &[u64]) -> Comparison {
+    let zeros = natural(fields, 4);
+    let count = natural(fields, 5);
+    if zeros <= ZEROS as u64 {
+        if count <= LONGEST as u64 {
+            let bytes = first(from(fields, 6), count as usize);
+            let said = said_at(from(fields, 4));
+            if are_bytes(bytes) {
+                if is_answer(said) {
+                    let storage = file_at(bytes);
+                    let file = part(&storage, (count + zeros) as usize);
+                    return asked(file, fields, said);
+                }
+            }
+        }
+    }
+    Comparison::Unreadable
+}
+
+// The model that is asked for, if there is one.
+pub fn group(fields: &[u64]) -> Group {
+    let model = natural(fields, 0);
+    if model == 0 {
+        return Group::First;
+    }
+    if model == 1 {
+        return Group::Second;
+    }
+    Group::Third
+}
+
+// What is said of the call: a capture that is judged, a file that is refused, a call that is refused.
+pub fn outcome(fields: &[u64]) -> Call {
+    let said = said_at(from(fields, 4));
+    if natural(said, 0) != 0 {
+        return Call::Three;
+    }
+    if natural(said, 2) == REFUSED {
+        return Call::Two;
+    }
+    Call::One
+}
