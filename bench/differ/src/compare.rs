@@ -67,11 +67,8 @@ mod tests {
 
     #[test]
     fn what_stateright_does_not_say_is_a_difference() {
-        let write = Capture::of(Object::Register(0)).invret(
-            0,
-            RegisterOp::Write(1),
-            RegisterRet::WriteOk,
-        );
+        let write =
+            Capture::of(Object::Register(0)).invret(0, RegisterOp::Write(1), RegisterRet::WriteOk);
         let mut batch = Batch::default();
         let manner = Manner {
             limit: 100,

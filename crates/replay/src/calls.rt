@@ -1,92 +1,104 @@
 // The three calls on a bare object, made and compared with what the list says of them.
-use crate::codes::StepRead;
+use crate::came;
+use crate::came::judged;
+use crate::codes::op_at;
 use crate::codes::step_at;
-use crate::comparison;
-use crate::comparison::Comparison;
 use crate::fields::from;
 use crate::fields::natural;
 use crate::numbers::LONGEST;
 use crate::objects::holds;
-use crate::returns::same_ret;
-use crate::which::Call;
+use crate::objects::object_at;
+use crate::returns::is_said;
 use semantics::Answer;
 use semantics::Object;
-use semantics::Op;
-use semantics::Ret;
 use semantics::Said;
 use semantics::Stepped;
 
-pub struct Compared {
-    pub comparison: Comparison,
+// What a line came to, and the object that it left.
+pub struct Left {
+    pub came: u64,
     pub object: Object,
 }
 
-fn unreadable(object: Object) -> Compared {
-    let comparison = Comparison::Unreadable;
-    Compared { comparison, object }
+fn unreadable(object: Object) -> Left {
+    let came = came::UNREADABLE;
+    Left { came, object }
 }
 
-fn judged(agrees: bool, object: Object) -> Compared {
-    let comparison = comparison::judged(agrees);
-    Compared { comparison, object }
-}
-
-// What stands after the number of the call.
-pub fn asked(call: Call, object: Object, fields: &[u64]) -> Compared {
-    match call {
-        Call::One => invoked(object, fields),
-        Call::Two => stepped(object, fields),
-        Call::Three => walked(object, fields),
+// A line, by the number that begins it: a new object, or a call on the one that there is, of this family. Where
+// there is none nothing can be asked.
+pub fn compared(family: u64, object: Object, numbers: &[u64]) -> Left {
+    let lead = natural(numbers, 0);
+    let fields = from(numbers, 1);
+    if lead == 0 {
+        return started(fields);
     }
+    if family <= 2 {
+        if lead == 1 {
+            return invoked(family, object, fields);
+        }
+        if lead == 2 {
+            return stepped(family, object, fields);
+        }
+        if lead == 3 {
+            return walked(family, object, fields);
+        }
+    }
+    unreadable(object)
+}
+
+// F n v1 … vn
+fn started(fields: &[u64]) -> Left {
+    let made = object_at(fields);
+    let object = made.object;
+    if made.readable {
+        let came = came::STARTED;
+        return Left { came, object };
+    }
+    unreadable(object)
 }
 
 // OP V RET RN RV n v1 … vn
-fn invoked(object: Object, fields: &[u64]) -> Compared {
-    let kind = object.kind;
-    match step_at(kind, fields) {
-        StepRead::Unknown => unreadable(object),
-        StepRead::Known { op, ret } => invoke(object, op, ret, from(fields, 5)),
+fn invoked(family: u64, object: Object, fields: &[u64]) -> Left {
+    let read = op_at(family, fields);
+    if read.good {
+        let op = read.op;
+        let invoked = semantics::invoke(object, op);
+        let answer = invoked.answer;
+        let object = invoked.object;
+        let agrees = is_answer(answer, family, from(fields, 2)) && holds(object, from(fields, 5));
+        let came = judged(agrees);
+        return Left { came, object };
     }
+    unreadable(object)
 }
 
-// n v1 … vn
-fn invoke(object: Object, op: Op, ret: Ret, held: &[u64]) -> Compared {
-    let invoked = semantics::invoke(object, op);
-    let answer = invoked.answer;
-    let after = invoked.object;
-    if is_answer(answer, ret) {
-        return judged(holds(after, held), after);
-    }
-    judged(false, after)
-}
-
-fn is_answer(answer: Answer, ret: Ret) -> bool {
+fn is_answer(answer: Answer, family: u64, fields: &[u64]) -> bool {
     match answer {
-        Answer::Returned(given) => same_ret(given, ret),
+        Answer::Returned(ret) => is_said(ret, family, fields),
         Answer::Refused(_) => false,
     }
 }
 
 // OP V RET RN RV Y n v1 … vn
-fn stepped(object: Object, fields: &[u64]) -> Compared {
-    let kind = object.kind;
-    match step_at(kind, fields) {
-        StepRead::Unknown => unreadable(object),
-        StepRead::Known { op, ret } => is_said(
-            semantics::is_valid_step(object, op, ret),
-            from(fields, 5),
-        ),
+fn stepped(family: u64, object: Object, fields: &[u64]) -> Left {
+    let step = step_at(family, fields);
+    let op = step.op;
+    let ret = step.ret;
+    if step.good {
+        let stepped = semantics::is_valid_step(object, op, ret);
+        return ended(stepped, from(fields, 5));
     }
+    unreadable(object)
 }
 
 // Y n v1 … vn
-fn is_said(stepped: Stepped, fields: &[u64]) -> Compared {
+fn ended(stepped: Stepped, fields: &[u64]) -> Left {
     let said = stepped.said;
     let object = stepped.object;
-    if says(said, natural(fields, 0)) {
-        return judged(holds(object, from(fields, 1)), object);
-    }
-    judged(false, object)
+    let agrees = says(said, natural(fields, 0)) && holds(object, from(fields, 1));
+    let came = judged(agrees);
+    Left { came, object }
 }
 
 fn says(said: Said, answer: u64) -> bool {
@@ -104,7 +116,7 @@ struct Walk {
 }
 
 // k, k times OP V RET RN RV, Y n v1 … vn
-fn walked(object: Object, fields: &[u64]) -> Compared {
+fn walked(family: u64, object: Object, fields: &[u64]) -> Left {
     let steps = natural(fields, 0);
     if (LONGEST as u64) < steps {
         return unreadable(object);
@@ -117,13 +129,12 @@ fn walked(object: Object, fields: &[u64]) -> Compared {
     let mut at = 1;
     let mut left = steps;
     while left > 0 {
-        walk = with_step(walk, from(fields, at));
+        walk = with_step(walk, family, from(fields, at));
         at = past_step(at);
         left -= 1;
     }
     if walk.readable {
-        let ended = walk.stepped;
-        return is_said(ended, from(fields, at));
+        return ended(walk.stepped, from(fields, at));
     }
     unreadable(object)
 }
@@ -137,22 +148,20 @@ fn past_step(at: usize) -> usize {
 }
 
 // OP V RET RN RV
-fn with_step(walk: Walk, fields: &[u64]) -> Walk {
-    let readable = walk.readable;
+fn with_step(walk: Walk, family: u64, fields: &[u64]) -> Walk {
+    let step = step_at(family, fields);
+    let op = step.op;
+    let ret = step.ret;
     let stepped = walk.stepped;
-    let object = stepped.object;
-    let kind = object.kind;
-    match step_at(kind, fields) {
-        StepRead::Unknown => Walk {
-            readable: false,
-            stepped,
-        },
-        StepRead::Known { op, ret } => {
-            let next = stepped.then(op, ret);
-            Walk {
-                readable,
-                stepped: next,
-            }
-        }
+    if step.good {
+        let next = stepped.then(op, ret);
+        return Walk {
+            readable: walk.readable,
+            stepped: next,
+        };
+    }
+    Walk {
+        readable: false,
+        stepped,
     }
 }

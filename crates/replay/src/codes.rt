@@ -1,8 +1,9 @@
-// Operations and returns by their numbers in the lists, each within the family of the object.
+// Operations and returns by their numbers in the lists, each within its family: 0 register, 1 write-once
+// register, 2 stack.
 use crate::fields::from;
+use crate::fields::has_value;
 use crate::fields::natural;
-use crate::fields::value;
-use semantics::Kind;
+use crate::fields::value_or_zero;
 use semantics::Op;
 use semantics::Ret;
 use semantics::register::RegisterOp;
@@ -13,245 +14,224 @@ use semantics::vec::VecRet;
 use semantics::write_once_register::WORegisterOp;
 use semantics::write_once_register::WORegisterRet;
 
-pub enum OpRead {
-    Known(Op),
-    Unknown,
+// An operation; where it is not good there is none.
+pub struct OpRead {
+    pub good: bool,
+    pub op: Op,
 }
 
-pub enum RetRead {
-    Known(Ret),
-    Unknown,
+// A return likewise.
+pub struct RetRead {
+    pub good: bool,
+    pub ret: Ret,
 }
 
-pub enum StepRead {
-    Known { op: Op, ret: Ret },
-    Unknown,
-}
-
-// What a return carries.
-enum Carried {
-    Known(Maybe),
-    Unknown,
-}
-
-// OP V RET RN RV
-pub fn step_at(kind: Kind, fields: &[u64]) -> StepRead {
-    match op_at(kind, fields) {
-        OpRead::Unknown => StepRead::Unknown,
-        OpRead::Known(op) => match ret_at(kind, from(fields, 2)) {
-            RetRead::Unknown => StepRead::Unknown,
-            RetRead::Known(ret) => StepRead::Known { op, ret },
-        },
+// OP V: whether the family has such an operation, and no value stands where it takes none.
+fn is_op(family: u64, fields: &[u64]) -> bool {
+    let code = natural(fields, 0);
+    if has_value(fields, 1) {
+        if code == 0 {
+            return true;
+        }
+        if value_or_zero(fields, 1) == 0 {
+            if code == 1 {
+                return true;
+            }
+            if code == 2 {
+                return family == 2;
+            }
+        }
     }
+    false
+}
+
+fn register_op(code: u64, v: i32) -> Op {
+    if code == 0 {
+        let op = RegisterOp::Write(v);
+        return Op::Register(op);
+    }
+    let op = RegisterOp::Read;
+    Op::Register(op)
+}
+
+fn write_once_op(code: u64, v: i32) -> Op {
+    if code == 0 {
+        let op = WORegisterOp::Write(v);
+        return Op::WORegister(op);
+    }
+    let op = WORegisterOp::Read;
+    Op::WORegister(op)
+}
+
+fn stack_op(code: u64, v: i32) -> Op {
+    if code == 0 {
+        let op = VecOp::Push(v);
+        return Op::Vec(op);
+    }
+    if code == 1 {
+        let op = VecOp::Pop;
+        return Op::Vec(op);
+    }
+    let op = VecOp::Len;
+    Op::Vec(op)
+}
+
+fn op_of(family: u64, code: u64, v: i32) -> Op {
+    if family == 0 {
+        return register_op(code, v);
+    }
+    if family == 1 {
+        return write_once_op(code, v);
+    }
+    stack_op(code, v)
 }
 
 // OP V
-pub fn op_at(kind: Kind, fields: &[u64]) -> OpRead {
+pub fn op_at(family: u64, fields: &[u64]) -> OpRead {
+    let good = is_op(family, fields);
+    let op = op_of(family, natural(fields, 0), value_or_zero(fields, 1));
+    OpRead { good, op }
+}
+
+// RN RV: whether nothing is carried.
+pub fn is_nothing(fields: &[u64]) -> bool {
+    if natural(fields, 0) == 0 {
+        return natural(fields, 1) == 0;
+    }
+    false
+}
+
+// Whether a value is.
+fn is_something(fields: &[u64]) -> bool {
+    if natural(fields, 0) == 1 {
+        return has_value(fields, 1);
+    }
+    false
+}
+
+fn is_either(fields: &[u64]) -> bool {
+    if is_nothing(fields) {
+        return true;
+    }
+    is_something(fields)
+}
+
+// A length is a natural number of 32 bits.
+fn is_length(fields: &[u64]) -> bool {
+    if natural(fields, 0) == 1 {
+        return natural(fields, 1) <= u32::MAX as u64;
+    }
+    false
+}
+
+// What a return carries.
+fn maybe_at(fields: &[u64]) -> Maybe {
+    if natural(fields, 0) == 0 {
+        return Maybe::Nothing;
+    }
+    let v = value_or_zero(fields, 1);
+    Maybe::Value(v)
+}
+
+fn length_at(fields: &[u64]) -> u32 {
+    let length = natural(fields, 1);
+    if length <= u32::MAX as u64 {
+        return length as u32;
+    }
+    0
+}
+
+// RET RN RV: whether the family has such a return.
+fn is_ret(family: u64, fields: &[u64]) -> bool {
     let code = natural(fields, 0);
-    match value(fields, 1) {
-        Maybe::Nothing => OpRead::Unknown,
-        Maybe::Value(v) => match kind {
-            Kind::Register(_) => register_op(code, v),
-            Kind::WORegister(_) => write_once_op(code, v),
-            Kind::Vec(_) => stack_op(code, v),
-        },
-    }
-}
-
-fn register_op(code: u64, v: i32) -> OpRead {
+    let carried = from(fields, 1);
     if code == 0 {
-        let op = RegisterOp::Write(v);
-        let op = Op::Register(op);
-        return OpRead::Known(op);
+        return is_nothing(carried);
+    }
+    if family == 0 {
+        return code == 1 && is_something(carried);
+    }
+    if family == 1 {
+        if code == 1 {
+            return is_nothing(carried);
+        }
+        return code == 2 && is_either(carried);
     }
     if code == 1 {
-        if v == 0 {
-            let op = RegisterOp::Read;
-            let op = Op::Register(op);
-            return OpRead::Known(op);
-        }
+        return is_either(carried);
     }
-    OpRead::Unknown
+    code == 2 && is_length(carried)
 }
 
-fn write_once_op(code: u64, v: i32) -> OpRead {
+fn register_ret(code: u64, carried: &[u64]) -> Ret {
     if code == 0 {
-        let op = WORegisterOp::Write(v);
-        let op = Op::WORegister(op);
-        return OpRead::Known(op);
+        let ret = RegisterRet::WriteOk;
+        return Ret::Register(ret);
     }
-    if code == 1 {
-        if v == 0 {
-            let op = WORegisterOp::Read;
-            let op = Op::WORegister(op);
-            return OpRead::Known(op);
-        }
-    }
-    OpRead::Unknown
+    let v = value_or_zero(carried, 1);
+    let ret = RegisterRet::ReadOk(v);
+    Ret::Register(ret)
 }
 
-fn stack_op(code: u64, v: i32) -> OpRead {
+fn write_once_ret(code: u64, carried: &[u64]) -> Ret {
     if code == 0 {
-        let op = VecOp::Push(v);
-        let op = Op::Vec(op);
-        return OpRead::Known(op);
+        let ret = WORegisterRet::WriteOk;
+        return Ret::WORegister(ret);
     }
     if code == 1 {
-        if v == 0 {
-            let op = VecOp::Pop;
-            let op = Op::Vec(op);
-            return OpRead::Known(op);
-        }
+        let ret = WORegisterRet::WriteFail;
+        return Ret::WORegister(ret);
     }
-    if code == 2 {
-        if v == 0 {
-            let op = VecOp::Len;
-            let op = Op::Vec(op);
-            return OpRead::Known(op);
-        }
+    let m = maybe_at(carried);
+    let ret = WORegisterRet::ReadOk(m);
+    Ret::WORegister(ret)
+}
+
+fn stack_ret(code: u64, carried: &[u64]) -> Ret {
+    if code == 0 {
+        let ret = VecRet::PushOk;
+        return Ret::Vec(ret);
     }
-    OpRead::Unknown
+    if code == 1 {
+        let m = maybe_at(carried);
+        let ret = VecRet::PopOk(m);
+        return Ret::Vec(ret);
+    }
+    let length = length_at(carried);
+    let ret = VecRet::LenOk(length);
+    Ret::Vec(ret)
+}
+
+fn ret_of(family: u64, code: u64, carried: &[u64]) -> Ret {
+    if family == 0 {
+        return register_ret(code, carried);
+    }
+    if family == 1 {
+        return write_once_ret(code, carried);
+    }
+    stack_ret(code, carried)
 }
 
 // RET RN RV
-pub fn ret_at(kind: Kind, fields: &[u64]) -> RetRead {
-    let code = natural(fields, 0);
-    let rest = from(fields, 1);
-    match kind {
-        Kind::Register(_) => register_ret(code, rest),
-        Kind::WORegister(_) => write_once_ret(code, rest),
-        Kind::Vec(_) => stack_ret(code, rest),
-    }
+pub fn ret_at(family: u64, fields: &[u64]) -> RetRead {
+    let good = is_ret(family, fields);
+    let ret = ret_of(family, natural(fields, 0), from(fields, 1));
+    RetRead { good, ret }
 }
 
-// RN RV: nothing or a value.
-fn carried_at(fields: &[u64]) -> Carried {
-    let count = natural(fields, 0);
-    match value(fields, 1) {
-        Maybe::Nothing => Carried::Unknown,
-        Maybe::Value(v) => {
-            if count == 1 {
-                let m = Maybe::Value(v);
-                return Carried::Known(m);
-            }
-            if count == 0 {
-                if v == 0 {
-                    let m = Maybe::Nothing;
-                    return Carried::Known(m);
-                }
-            }
-            Carried::Unknown
-        }
-    }
+// An operation and its return; where it is not good there are none.
+pub struct Step {
+    pub good: bool,
+    pub op: Op,
+    pub ret: Ret,
 }
 
-fn carries_nothing(fields: &[u64]) -> bool {
-    match carried_at(fields) {
-        Carried::Unknown => false,
-        Carried::Known(m) => match m {
-            Maybe::Nothing => true,
-            Maybe::Value(_) => false,
-        },
-    }
-}
-
-fn register_ret(code: u64, fields: &[u64]) -> RetRead {
-    if code == 0 {
-        if carries_nothing(fields) {
-            let ret = RegisterRet::WriteOk;
-            let ret = Ret::Register(ret);
-            return RetRead::Known(ret);
-        }
-    }
-    if code == 1 {
-        return read_ok(fields);
-    }
-    RetRead::Unknown
-}
-
-fn read_ok(fields: &[u64]) -> RetRead {
-    match carried_at(fields) {
-        Carried::Unknown => RetRead::Unknown,
-        Carried::Known(m) => match m {
-            Maybe::Nothing => RetRead::Unknown,
-            Maybe::Value(v) => {
-                let ret = RegisterRet::ReadOk(v);
-                let ret = Ret::Register(ret);
-                RetRead::Known(ret)
-            }
-        },
-    }
-}
-
-fn write_once_ret(code: u64, fields: &[u64]) -> RetRead {
-    if code == 0 {
-        if carries_nothing(fields) {
-            let ret = WORegisterRet::WriteOk;
-            let ret = Ret::WORegister(ret);
-            return RetRead::Known(ret);
-        }
-    }
-    if code == 1 {
-        if carries_nothing(fields) {
-            let ret = WORegisterRet::WriteFail;
-            let ret = Ret::WORegister(ret);
-            return RetRead::Known(ret);
-        }
-    }
-    if code == 2 {
-        return read_once_ok(fields);
-    }
-    RetRead::Unknown
-}
-
-fn read_once_ok(fields: &[u64]) -> RetRead {
-    match carried_at(fields) {
-        Carried::Unknown => RetRead::Unknown,
-        Carried::Known(m) => {
-            let ret = WORegisterRet::ReadOk(m);
-            let ret = Ret::WORegister(ret);
-            RetRead::Known(ret)
-        }
-    }
-}
-
-fn stack_ret(code: u64, fields: &[u64]) -> RetRead {
-    if code == 0 {
-        if carries_nothing(fields) {
-            let ret = VecRet::PushOk;
-            let ret = Ret::Vec(ret);
-            return RetRead::Known(ret);
-        }
-    }
-    if code == 1 {
-        return pop_ok(fields);
-    }
-    if code == 2 {
-        return len_ok(fields);
-    }
-    RetRead::Unknown
-}
-
-fn pop_ok(fields: &[u64]) -> RetRead {
-    match carried_at(fields) {
-        Carried::Unknown => RetRead::Unknown,
-        Carried::Known(m) => {
-            let ret = VecRet::PopOk(m);
-            let ret = Ret::Vec(ret);
-            RetRead::Known(ret)
-        }
-    }
-}
-
-// A length is a natural number of 32 bits, and a return that has one always carries it.
-fn len_ok(fields: &[u64]) -> RetRead {
-    let length = natural(fields, 1);
-    if natural(fields, 0) == 1 {
-        if length <= 4294967295 {
-            let ret = VecRet::LenOk(length as u32);
-            let ret = Ret::Vec(ret);
-            return RetRead::Known(ret);
-        }
-    }
-    RetRead::Unknown
+// OP V RET RN RV
+pub fn step_at(family: u64, fields: &[u64]) -> Step {
+    let invoked = op_at(family, fields);
+    let returned = ret_at(family, from(fields, 2));
+    let good = invoked.good && returned.good;
+    let op = invoked.op;
+    let ret = returned.ret;
+    Step { good, op, ret }
 }

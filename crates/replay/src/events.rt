@@ -1,108 +1,81 @@
-// An event of the list, and what the list says of it.
-use crate::codes::OpRead;
-use crate::codes::RetRead;
-use crate::codes::StepRead;
+// An event of a list, and what the list of events says of it.
 use crate::codes::op_at;
 use crate::codes::ret_at;
-use crate::codes::step_at;
 use crate::fields::from;
 use crate::fields::natural;
-use crate::which::Call;
-use semantics::Kind;
 use semantics::Op;
 use semantics::Ret;
 use semantics::sizes::THREADS;
 
-pub enum Event {
-    Invoke(Op),
-    Return(Ret),
-    Both { op: Op, ret: Ret },
+// The numbers that begin a line with an event.
+pub const INVOKE: u64 = 1;
+
+pub const RETURN: u64 = 2;
+
+pub const BOTH: u64 = 3;
+
+// An event of one of the threads; where it is not good there is none. An invoke has no return, and a return no
+// operation: what stands in their place is not looked at.
+pub struct Event {
+    pub good: bool,
+    pub thread: u32,
+    pub op: Op,
+    pub ret: Ret,
 }
 
-pub enum EventRead {
-    Known(Event),
-    Unknown,
-}
-
-// OP V
-fn invoke_at(kind: Kind, fields: &[u64]) -> EventRead {
-    match op_at(kind, fields) {
-        OpRead::Unknown => EventRead::Unknown,
-        OpRead::Known(op) => {
-            let event = Event::Invoke(op);
-            EventRead::Known(event)
-        }
+// T, then OP V or RET RN RV or both.
+pub fn event_at(lead: u64, family: u64, fields: &[u64]) -> Event {
+    let invoked = op_at(family, from(fields, 1));
+    let returned = ret_at(family, from(fields, returned_at(lead)));
+    let good = is_known(lead, invoked.good, returned.good) && is_thread(fields);
+    let thread = thread_at(fields);
+    let op = invoked.op;
+    let ret = returned.ret;
+    Event {
+        good,
+        thread,
+        op,
+        ret,
     }
 }
 
-// RET RN RV
-fn return_at(kind: Kind, fields: &[u64]) -> EventRead {
-    match ret_at(kind, fields) {
-        RetRead::Unknown => EventRead::Unknown,
-        RetRead::Known(ret) => {
-            let event = Event::Return(ret);
-            EventRead::Known(event)
-        }
+// Where the return stands.
+fn returned_at(lead: u64) -> usize {
+    if lead == RETURN {
+        return 1;
     }
+    3
 }
 
-// OP V RET RN RV
-fn both_at(kind: Kind, fields: &[u64]) -> EventRead {
-    match step_at(kind, fields) {
-        StepRead::Unknown => EventRead::Unknown,
-        StepRead::Known { op, ret } => {
-            let event = Event::Both { op, ret };
-            EventRead::Known(event)
-        }
+fn is_known(lead: u64, op: bool, ret: bool) -> bool {
+    if lead == INVOKE {
+        return op;
     }
+    if lead == RETURN {
+        return ret;
+    }
+    lead == BOTH && op && ret
 }
 
-// T, then the operation or the return or both: an event of one of the threads.
-pub fn event_at(call: Call, kind: Kind, fields: &[u64]) -> EventRead {
-    let rest = from(fields, 1);
-    if natural(fields, 0) < THREADS as u64 {
-        return match call {
-            Call::One => invoke_at(kind, rest),
-            Call::Two => return_at(kind, rest),
-            Call::Three => both_at(kind, rest),
-        };
-    }
-    EventRead::Unknown
+fn is_thread(fields: &[u64]) -> bool {
+    natural(fields, 0) < THREADS as u64
 }
 
-pub fn thread_at(fields: &[u64]) -> u32 {
+fn thread_at(fields: &[u64]) -> u32 {
     let thread = natural(fields, 0);
-    if thread < THREADS as u64 {
+    if thread <= u32::MAX as u64 {
         return thread as u32;
     }
-    0
+    u32::MAX
 }
 
-// What the list says of an event: Ok or Err, and `len` after it.
-pub enum SaidRead {
-    Known { ok: bool, len: u64 },
-    Unknown,
-}
-
-// T, the event, Y L: the last two.
-pub fn said_at(call: Call, fields: &[u64]) -> SaidRead {
-    match call {
-        Call::One => last_at(from(fields, 3)),
-        Call::Two => last_at(from(fields, 4)),
-        Call::Three => last_at(from(fields, 6)),
+// T, the event, Y L to the end of the line: the last two.
+pub fn said_at(lead: u64, fields: &[u64]) -> &[u64] {
+    if lead == INVOKE {
+        return from(fields, 3);
     }
-}
-
-// Y L to the end of the line.
-fn last_at(fields: &[u64]) -> SaidRead {
-    let answer = natural(fields, 0);
-    if fields.len() == 2 {
-        if answer <= 1 {
-            return SaidRead::Known {
-                ok: answer == 1,
-                len: natural(fields, 1),
-            };
-        }
+    if lead == RETURN {
+        return from(fields, 4);
     }
-    SaidRead::Unknown
+    from(fields, 6)
 }

@@ -3,7 +3,7 @@
 use semantics::value::Maybe;
 
 // What a natural number is read as where there is none.
-const NONE: u64 = u64::MAX;
+pub const NONE: u64 = u64::MAX;
 
 // This many numbers; none where there are fewer.
 pub fn first(line: &[u64], count: usize) -> &[u64] {
@@ -46,6 +46,21 @@ pub fn value_or_zero(line: &[u64], at: usize) -> i32 {
     match value(line, at) {
         Maybe::Value(v) => v,
         Maybe::Nothing => 0,
+    }
+}
+
+pub fn has_value(line: &[u64], at: usize) -> bool {
+    match value(line, at) {
+        Maybe::Value(_) => true,
+        Maybe::Nothing => false,
+    }
+}
+
+// Whether the number at a place is this value.
+pub fn is_value(v: i32, line: &[u64], at: usize) -> bool {
+    match value(line, at) {
+        Maybe::Nothing => false,
+        Maybe::Value(w) => v == w,
     }
 }
 

@@ -1,12 +1,10 @@
 // A call of the host on a file, made and compared with what the list says of it.
-use crate::comparison::Comparison;
-use crate::comparison::judged;
+use crate::came;
+use crate::came::judged;
 use crate::fields::first;
 use crate::fields::from;
 use crate::fields::natural;
 use crate::numbers::LONGEST;
-use crate::which::Call;
-use crate::which::Group;
 
 // The most zeros at the end of a file, room for the longest file, and for the longest buffer.
 const ZEROS: usize = 70000;
@@ -110,21 +108,25 @@ fn holds(buffer: &[u8; ROOM], number: u64, written: &[u64]) -> bool {
     true
 }
 
+// The call, with as much of the buffer as there is to be. It stands alone, since all that is done where its promise
+// is known is dearer to check.
+fn call(file: &[u8], model: u32, budget: u64, buffer: &mut [u8], room: usize) -> u32 {
+    if room <= buffer.len() {
+        return host::kilteshva_judge(file, model, budget, &mut buffer[0..room]);
+    }
+    u32::MAX
+}
+
 // Whether the call comes to what is said: R k a1 … ak.
 fn comes_to(file: &[u8], model: u32, budget: u64, room: usize, said: &[u64]) -> bool {
     let number = natural(said, 0);
     let mut buffer = marked();
-    if room <= ROOM {
-        let given = host::kilteshva_judge(file, model, budget, &mut buffer[0..room]);
-        if given as u64 == number {
-            return holds(&buffer, number, from(said, 2));
-        }
-    }
-    false
+    let given = call(file, model, budget, &mut buffer, room);
+    given as u64 == number && holds(&buffer, number, from(said, 2))
 }
 
 // The file, and of the line MODEL HIGH LOW ROOM and R k a1 … ak.
-fn asked(file: &[u8], fields: &[u64], said: &[u64]) -> Comparison {
+fn asked(file: &[u8], fields: &[u64], said: &[u64]) -> u64 {
     let model = natural(fields, 0);
     let high = natural(fields, 1);
     let low = natural(fields, 2);
@@ -139,7 +141,7 @@ fn asked(file: &[u8], fields: &[u64], said: &[u64]) -> Comparison {
             }
         }
     }
-    Comparison::Unreadable
+    came::UNREADABLE
 }
 
 // Z n f1 … fn R k a1 … ak: R and what follows.
@@ -152,7 +154,7 @@ fn said_at(fields: &[u64]) -> &[u64] {
 }
 
 // MODEL HIGH LOW ROOM Z n f1 … fn R k a1 … ak
-pub fn compared(fields: &[u64]) -> Comparison {
+pub fn compared(fields: &[u64]) -> u64 {
     let zeros = natural(fields, 4);
     let count = natural(fields, 5);
     if zeros <= ZEROS as u64 {
@@ -168,29 +170,26 @@ pub fn compared(fields: &[u64]) -> Comparison {
             }
         }
     }
-    Comparison::Unreadable
+    came::UNREADABLE
 }
 
-// The model that is asked for, if there is one.
-pub fn group(fields: &[u64]) -> Group {
+// The group of a line: the model that is asked for, or 2 where there is none.
+pub fn group(fields: &[u64]) -> u64 {
     let model = natural(fields, 0);
-    if model == 0 {
-        return Group::First;
+    if model <= 1 {
+        return model;
     }
-    if model == 1 {
-        return Group::Second;
-    }
-    Group::Third
+    2
 }
 
-// What is said of the call: a capture that is judged, a file that is refused, a call that is refused.
-pub fn outcome(fields: &[u64]) -> Call {
+// What is said of the call: 0 where a capture is judged, 1 where the file is refused, 2 where the call is.
+pub fn outcome(fields: &[u64]) -> u64 {
     let said = said_at(from(fields, 4));
     if natural(said, 0) != 0 {
-        return Call::Three;
+        return 2;
     }
     if natural(said, 2) == REFUSED {
-        return Call::Two;
+        return 1;
     }
-    Call::One
+    0
 }

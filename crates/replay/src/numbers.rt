@@ -1,129 +1,127 @@
-// The numbers of a line, read byte by byte. A signed number v is kept as 2v, or as -2v - 1 where it is
+// The lines of a text, and the numbers of a line. A signed number v is kept as 2v, or as -2v - 1 where it is
 // below zero.
+use crate::fields::NONE;
+ghost use Prim.Native.Nat.{_<_};
+ghost use lib.ListN.{length};
 
 // Room for the numbers of a line. A history of 96 pushes and 96 pops that leaves 95 values has 1,059.
 pub const LONGEST: usize = 1200;
 
-// A line up to some byte: how many numbers it has, whether all was numbers with one blank between them,
-// and the number that has begun.
-pub struct Reading {
-    pub count: usize,
-    pub good: bool,
-    pub negative: bool,
-    pub begun: bool,
-    pub size: u64,
-}
-
-impl Reading {
-    // A line of which nothing is read.
-    pub fn new() -> Self {
-        Self {
-            count: 0,
-            good: true,
-            negative: false,
-            begun: false,
-            size: 0,
-        }
-    }
-
-    // Whether anything of the line is read.
-    pub fn is_begun(self) -> bool {
-        if self.count == 0 {
-            if self.good {
-                if self.negative {
-                    return true;
-                }
-                return self.begun;
-            }
-        }
-        true
-    }
-
-    fn spoilt(mut self) -> Self {
-        self.good = false;
-        self
-    }
-
-    fn minus(mut self) -> Self {
-        if self.begun {
-            return self.spoilt();
-        }
-        if self.negative {
-            return self.spoilt();
-        }
-        self.negative = true;
-        self
-    }
-
-    fn digit(mut self, digit: u64) -> Self {
-        self.begun = true;
-        self.size = joined(self.size, digit);
-        self
-    }
-
-    // The number as it is kept.
-    fn word(self) -> u64 {
-        let size = self.size;
-        if TOO_LARGE < size {
-            return u64::MAX;
-        }
-        if self.negative {
-            if 0 < size {
-                return size * 2 - 1;
-            }
-        }
-        size * 2
-    }
-
-    // A number is ended by a blank or by the end of the line.
-    fn ended(self, line: &mut [u64]) -> Self {
-        let count = self.count;
-        if self.begun {
-            if count < line.len() {
-                line[count] = self.word();
-                return Self {
-                    count: count + 1,
-                    good: self.good,
-                    negative: false,
-                    begun: false,
-                    size: 0,
-                };
-            }
-        }
-        self.spoilt()
-    }
-
-    // The line with one byte more.
-    pub fn with(self, byte: u8, line: &mut [u64]) -> Self {
-        if byte == b' ' {
-            return self.ended(line);
-        }
-        if byte == b'\n' {
-            return self.ended(line);
-        }
-        if byte == b'-' {
-            return self.minus();
-        }
-        if byte < b'0' {
-            return self.spoilt();
-        }
-        if b'9' < byte {
-            return self.spoilt();
-        }
-        self.digit((byte - b'0') as u64)
-    }
-}
-
-// Above every number of the list. Nothing takes a number as large for what it looks for.
+// Above every number of the lists.
 const TOO_LARGE: u64 = 4294967296;
 
-// A number with one digit more; one that is too large stays as it is.
-fn joined(size: u64, digit: u64) -> u64 {
+// The place behind the line that a place is in.
+pub fn line_end(text: &[u8], from: usize) -> usize
+    requires { ⌜ from < length (now text) ⌝ }
+    ensures { λ r. ⌜ from < r ⌝ }
+{
+    let mut i = from;
+    while i < text.len() {
+        let byte = text[i];
+        i += 1;
+        if byte == b'\n' {
+            return i;
+        }
+    }
+    i
+}
+
+// The bytes from one place up to another; none where there are no such places.
+fn between(bytes: &[u8], from: usize, to: usize) -> &[u8] {
+    if from <= to {
+        if to <= bytes.len() {
+            return &bytes[from..to];
+        }
+    }
+    &bytes[..0]
+}
+
+// A number with one digit more, which is too large where the byte is no digit; what is too large stays so.
+fn joined(size: u64, byte: u8) -> u64 {
     if TOO_LARGE < size {
         return size;
     }
-    if digit < 10 {
-        return size * 10 + digit;
+    if byte < b'0' {
+        return NONE;
+    }
+    if b'9' < byte {
+        return NONE;
+    }
+    size * 10 + (byte - b'0') as u64
+}
+
+fn size_of(digits: &[u8]) -> u64 {
+    if digits.len() == 0 {
+        return NONE;
+    }
+    let mut size = 0;
+    let mut i = 0;
+    while i < digits.len() {
+        let byte = digits[i];
+        size = joined(size, byte);
+        i += 1;
     }
     size
+}
+
+fn is_below_zero(word: &[u8]) -> bool {
+    if 0 < word.len() {
+        return word[0] == b'-';
+    }
+    false
+}
+
+// A number as it is kept; none where the word is no number, or one that is too large.
+fn number(word: &[u8]) -> u64 {
+    if is_below_zero(word) {
+        let size = size_of(between(word, 1, word.len()));
+        if 0 < size {
+            if size <= TOO_LARGE {
+                return size * 2 - 1;
+            }
+        }
+        return NONE;
+    }
+    let size = size_of(word);
+    if size <= TOO_LARGE {
+        return size * 2;
+    }
+    NONE
+}
+
+fn is_end(byte: u8) -> bool {
+    if byte == b' ' {
+        return true;
+    }
+    byte == b'\n'
+}
+
+// How many numbers the line has that begins at a place, each ended by a blank or by the line's end, which are laid
+// into `line`; none where the line has anything else.
+pub fn read(text: &[u8], from: usize, line: &mut [u64]) -> usize {
+    let mut count = 0;
+    let mut begun = from;
+    let mut i = from;
+    while i < text.len() {
+        let byte = text[i];
+        if is_end(byte) {
+            let word = number(between(text, begun, i));
+            if word == NONE {
+                return 0;
+            }
+            if line.len() <= count {
+                return 0;
+            }
+            line[count] = word;
+            count += 1;
+            i += 1;
+            begun = i;
+            if byte == b'\n' {
+                return count;
+            }
+        } else {
+            i += 1;
+        }
+    }
+    0
 }

@@ -1,5 +1,6 @@
 // Objects of the lists: made from what a line says that they hold, and compared with it.
 use crate::fields::from;
+use crate::fields::is_value;
 use crate::fields::natural;
 use crate::fields::value;
 use crate::fields::value_or_zero;
@@ -111,13 +112,6 @@ fn is_maybe(m: Maybe, held: &[u64]) -> bool {
     match m {
         Maybe::Nothing => is_counted(0, held),
         Maybe::Value(v) => is_one(v, held),
-    }
-}
-
-fn is_value(v: i32, line: &[u64], at: usize) -> bool {
-    match value(line, at) {
-        Maybe::Nothing => false,
-        Maybe::Value(w) => v == w,
     }
 }
 

@@ -1,10 +1,8 @@
 // A proposed order, handed to the checker and compared with what the list says of it.
-use crate::comparison::Comparison;
-use crate::comparison::judged;
+use crate::came;
+use crate::came::judged;
 use crate::fields::from;
 use crate::fields::natural;
-use crate::verdicts::Model;
-use crate::verdicts::model_at;
 use testers::Testers;
 use witness::linearizability;
 use witness::sequential_consistency;
@@ -45,31 +43,36 @@ fn first(words: &[u32], count: usize) -> &[u32] {
     &words[..0]
 }
 
-fn check(testers: Testers, model: Model, order: &[u32]) -> bool {
-    match model {
-        Model::Sequential => sequential_consistency::check(testers.sequential, order),
-        Model::Linearizable => linearizability::check(testers.linearizability, order),
-        Model::Unknown => false,
+// By model 0, sequential, or 1, linearizable.
+fn check(testers: Testers, model: u64, order: &[u32]) -> bool {
+    if model == 0 {
+        return sequential_consistency::check(testers.sequential, order);
     }
+    linearizability::check(testers.linearizability, order)
 }
 
-// M Y k w1 … wk
-pub fn compared(testers: Testers, fields: &[u64]) -> Comparison {
-    let said = natural(fields, 1);
-    let rest = from(fields, 3);
-    let count = rest.len();
-    let read = words_at(rest);
-    if read.good {
-        if said <= 1 {
-            if natural(fields, 2) == count as u64 {
-                if count <= MOST {
-                    let words = read.words;
-                    let order = first(&words, count);
-                    let yes = check(testers, model_at(fields), order);
-                    return judged(yes == (said == 1));
-                }
+// M Y k w1 … wk, where there are `count` words: whether it can be read.
+fn is_readable(fields: &[u64], count: usize) -> bool {
+    if natural(fields, 0) <= 1 {
+        if natural(fields, 1) <= 1 {
+            if count <= MOST {
+                return natural(fields, 2) == count as u64;
             }
         }
     }
-    Comparison::Unreadable
+    false
+}
+
+pub fn compared(testers: Testers, fields: &[u64]) -> u64 {
+    let rest = from(fields, 3);
+    let count = rest.len();
+    if is_readable(fields, count) {
+        let read = words_at(rest);
+        let words = read.words;
+        if read.good {
+            let yes = check(testers, natural(fields, 0), first(&words, count));
+            return judged(yes == (natural(fields, 1) == 1));
+        }
+    }
+    came::UNREADABLE
 }

@@ -1,92 +1,67 @@
-// Whether two returns are the same.
+// Whether a return is the one that RET RN RV say, in a family.
+use crate::codes::is_nothing;
+use crate::fields::from;
+use crate::fields::is_value;
+use crate::fields::natural;
 use semantics::Ret;
 use semantics::register::RegisterRet;
 use semantics::value::Maybe;
 use semantics::vec::VecRet;
 use semantics::write_once_register::WORegisterRet;
 
-pub fn same_ret(a: Ret, b: Ret) -> bool {
-    match a {
-        Ret::Register(p) => match b {
-            Ret::Register(q) => same_register_ret(p, q),
-            Ret::WORegister(_) => false,
-            Ret::Vec(_) => false,
-        },
-        Ret::WORegister(p) => match b {
-            Ret::Register(_) => false,
-            Ret::WORegister(q) => same_write_once_ret(p, q),
-            Ret::Vec(_) => false,
-        },
-        Ret::Vec(p) => match b {
-            Ret::Register(_) => false,
-            Ret::WORegister(_) => false,
-            Ret::Vec(q) => same_stack_ret(p, q),
-        },
+pub fn is_said(ret: Ret, family: u64, fields: &[u64]) -> bool {
+    match ret {
+        Ret::Register(r) => family == 0 && is_register_ret(r, fields),
+        Ret::WORegister(r) => family == 1 && is_write_once_ret(r, fields),
+        Ret::Vec(r) => family == 2 && is_stack_ret(r, fields),
     }
 }
 
-fn same_register_ret(a: RegisterRet, b: RegisterRet) -> bool {
-    match a {
-        RegisterRet::WriteOk => match b {
-            RegisterRet::WriteOk => true,
-            RegisterRet::ReadOk(_) => false,
-        },
-        RegisterRet::ReadOk(v) => match b {
-            RegisterRet::WriteOk => false,
-            RegisterRet::ReadOk(w) => v == w,
-        },
+fn is_register_ret(ret: RegisterRet, fields: &[u64]) -> bool {
+    match ret {
+        RegisterRet::WriteOk => is_bare(0, fields),
+        RegisterRet::ReadOk(v) => is_valued(1, v, fields),
     }
 }
 
-fn same_write_once_ret(a: WORegisterRet, b: WORegisterRet) -> bool {
-    match a {
-        WORegisterRet::WriteOk => match b {
-            WORegisterRet::WriteOk => true,
-            WORegisterRet::WriteFail => false,
-            WORegisterRet::ReadOk(_) => false,
-        },
-        WORegisterRet::WriteFail => match b {
-            WORegisterRet::WriteOk => false,
-            WORegisterRet::WriteFail => true,
-            WORegisterRet::ReadOk(_) => false,
-        },
-        WORegisterRet::ReadOk(m) => match b {
-            WORegisterRet::WriteOk => false,
-            WORegisterRet::WriteFail => false,
-            WORegisterRet::ReadOk(n) => same_maybe(m, n),
-        },
+fn is_write_once_ret(ret: WORegisterRet, fields: &[u64]) -> bool {
+    match ret {
+        WORegisterRet::WriteOk => is_bare(0, fields),
+        WORegisterRet::WriteFail => is_bare(1, fields),
+        WORegisterRet::ReadOk(m) => is_maybe(2, m, fields),
     }
 }
 
-fn same_stack_ret(a: VecRet, b: VecRet) -> bool {
-    match a {
-        VecRet::PushOk => match b {
-            VecRet::PushOk => true,
-            VecRet::PopOk(_) => false,
-            VecRet::LenOk(_) => false,
-        },
-        VecRet::PopOk(m) => match b {
-            VecRet::PushOk => false,
-            VecRet::PopOk(n) => same_maybe(m, n),
-            VecRet::LenOk(_) => false,
-        },
-        VecRet::LenOk(x) => match b {
-            VecRet::PushOk => false,
-            VecRet::PopOk(_) => false,
-            VecRet::LenOk(y) => x == y,
-        },
+fn is_stack_ret(ret: VecRet, fields: &[u64]) -> bool {
+    match ret {
+        VecRet::PushOk => is_bare(0, fields),
+        VecRet::PopOk(m) => is_maybe(1, m, fields),
+        VecRet::LenOk(n) => is_length(2, n, fields),
     }
 }
 
-fn same_maybe(a: Maybe, b: Maybe) -> bool {
-    match a {
-        Maybe::Nothing => match b {
-            Maybe::Nothing => true,
-            Maybe::Value(_) => false,
-        },
-        Maybe::Value(v) => match b {
-            Maybe::Nothing => false,
-            Maybe::Value(w) => v == w,
-        },
+// A return of this number that carries nothing; a value; nothing or a value; a length.
+fn is_bare(code: u64, fields: &[u64]) -> bool {
+    natural(fields, 0) == code && is_nothing(from(fields, 1))
+}
+
+fn is_valued(code: u64, v: i32, fields: &[u64]) -> bool {
+    if natural(fields, 0) == code {
+        return natural(fields, 1) == 1 && is_value(v, fields, 2);
     }
+    false
+}
+
+fn is_maybe(code: u64, m: Maybe, fields: &[u64]) -> bool {
+    match m {
+        Maybe::Nothing => is_bare(code, fields),
+        Maybe::Value(v) => is_valued(code, v, fields),
+    }
+}
+
+fn is_length(code: u64, n: u32, fields: &[u64]) -> bool {
+    if natural(fields, 0) == code {
+        return natural(fields, 1) == 1 && natural(fields, 2) == n as u64;
+    }
+    false
 }

@@ -1,170 +1,104 @@
-// What was compared, counted by group and call.
-use crate::which::Call;
-use crate::which::Group;
+// What was compared, counted in an array. A list asks about three groups by three calls, by their numbers: the
+// families by what was called, or the models by what the call comes to.
+use crate::came;
+use crate::fields::NONE;
+use crate::fields::natural;
+use crate::telling::name_line;
 
-// What a line came to.
-pub enum Line {
-    Start,
-    Event,
-    Answer {
-        group: Group,
-        call: Call,
-        agrees: bool,
-    },
-    Unreadable,
-}
+pub const COUNTS: usize = 16;
 
-// The answers of one group, by the number of the call.
-pub struct Answers {
-    pub ones: u64,
-    pub twos: u64,
-    pub threes: u64,
-    pub agreed: u64,
-}
+// The places of the counts: lines, starts, unreadable lines, and lines that were unreadable or differed.
+pub const LINES: usize = 0;
 
-// After an unreadable line nothing is asked up to the next start.
-pub struct Tally {
-    pub is_started: bool,
-    pub lines: u64,
-    pub starts: u64,
-    pub first: Answers,
-    pub second: Answers,
-    pub third: Answers,
-    pub unreadable: u64,
-    // Lines that were unreadable or differed.
-    pub wrong: u64,
-}
+pub const STARTS: usize = 1;
 
-// One more, but for a count that no list reaches.
-pub fn more(count: u64) -> u64 {
-    if count < u64::MAX {
-        return count + 1;
+pub const UNREADABLE: usize = 2;
+
+pub const WRONG: usize = 3;
+
+// From here on the answers that agree, a place to a group.
+const AGREED: usize = 4;
+
+// From here on the answers, three places to a group.
+const ASKED: usize = 7;
+
+// The call by its number, which begins the line.
+pub fn call_of(numbers: &[u64]) -> u64 {
+    let lead = natural(numbers, 0);
+    if 0 < lead {
+        return lead - 1;
     }
-    count
+    NONE
 }
 
-// The sum, but for one that no list reaches.
-pub fn sum(a: u64, b: u64) -> u64 {
-    if a <= u64::MAX - b {
-        return a + b;
+// The count at a place; past the end there is none.
+pub fn count(counts: &[u64], place: usize) -> u64 {
+    if place < counts.len() {
+        return counts[place];
     }
-    u64::MAX
+    0
 }
 
-impl Answers {
-    fn new() -> Self {
-        Self {
-            ones: 0,
-            twos: 0,
-            threes: 0,
-            agreed: 0,
+// One more at a place, but for a count that no list reaches.
+fn more(counts: &mut [u64], place: usize) {
+    if place < counts.len() {
+        let count = counts[place];
+        if count < u64::MAX {
+            counts[place] = count + 1;
         }
-    }
-
-    pub fn asked(self) -> u64 {
-        sum(sum(self.ones, self.twos), self.threes)
-    }
-
-    fn with(mut self, call: Call, agrees: bool) -> Self {
-        match call {
-            Call::One => {
-                self.ones = more(self.ones);
-            }
-            Call::Two => {
-                self.twos = more(self.twos);
-            }
-            Call::Three => {
-                self.threes = more(self.threes);
-            }
-        }
-        if agrees {
-            self.agreed = more(self.agreed);
-        }
-        self
     }
 }
 
-impl Tally {
-    pub fn new() -> Self {
-        let none = Answers::new();
-        Self {
-            is_started: false,
-            lines: 0,
-            starts: 0,
-            first: none,
-            second: none,
-            third: none,
-            unreadable: 0,
-            wrong: 0,
+// Where the answers of a group to a call are counted, and those of a group that agree; past the end where there
+// is no such group or call.
+fn asked_at(group: u64, call: u64) -> usize {
+    if group <= 2 {
+        if call <= 2 {
+            return ASKED + 3 * group as usize + call as usize;
         }
     }
+    COUNTS
+}
 
-    pub fn asked(self) -> u64 {
-        let first = self.first;
-        let second = self.second;
-        let third = self.third;
-        sum(sum(first.asked(), second.asked()), third.asked())
+fn agreed_at(group: u64) -> usize {
+    if group <= 2 {
+        return AGREED + group as usize;
     }
+    COUNTS
+}
 
-    pub fn agreed(self) -> u64 {
-        let first = self.first;
-        let second = self.second;
-        let third = self.third;
-        sum(sum(first.agreed, second.agreed), third.agreed)
+pub fn asked(counts: &[u64], group: u64, call: u64) -> u64 {
+    count(counts, asked_at(group, call))
+}
+
+pub fn agreed(counts: &[u64], group: u64) -> u64 {
+    count(counts, agreed_at(group))
+}
+
+// Where a line is counted that came to this; past the end where it is counted as a line alone.
+fn place_of(came: u64, group: u64, call: u64) -> usize {
+    if came == came::STARTED {
+        return STARTS;
     }
-
-    // One line more.
-    pub fn with(mut self, line: Line) -> Self {
-        self.lines = more(self.lines);
-        match line {
-            Line::Start => self.with_start(),
-            Line::Event => self,
-            Line::Unreadable => self.with_unreadable(),
-            Line::Answer {
-                group,
-                call,
-                agrees,
-            } => {
-                if agrees {
-                    return self.with_answer(group, call, true);
-                }
-                self.wrong = more(self.wrong);
-                self.with_answer(group, call, false)
-            }
-        }
+    if came == came::FED {
+        return COUNTS;
     }
-
-    fn with_start(mut self) -> Self {
-        self.is_started = true;
-        self.starts = more(self.starts);
-        self
+    if came == came::UNREADABLE {
+        return UNREADABLE;
     }
+    asked_at(group, call)
+}
 
-    fn with_unreadable(mut self) -> Self {
-        self.is_started = false;
-        self.unreadable = more(self.unreadable);
-        self.wrong = more(self.wrong);
-        self
+// One line more, and what it came to.
+pub fn with_line(counts: &mut [u64], came: u64, group: u64, call: u64) {
+    more(counts, LINES);
+    more(counts, place_of(came, group, call));
+    if came == came::AGREES {
+        more(counts, agreed_at(group));
+        return;
     }
-
-    fn with_answer(mut self, group: Group, call: Call, agrees: bool) -> Self {
-        match group {
-            Group::First => {
-                let answers = self.first;
-                let answers = answers.with(call, agrees);
-                self.first = answers;
-            }
-            Group::Second => {
-                let answers = self.second;
-                let answers = answers.with(call, agrees);
-                self.second = answers;
-            }
-            Group::Third => {
-                let answers = self.third;
-                let answers = answers.with(call, agrees);
-                self.third = answers;
-            }
-        }
-        self
+    if came::AGREES < came {
+        more(counts, WRONG);
+        name_line(counts, came);
     }
 }

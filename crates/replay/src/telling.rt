@@ -1,10 +1,17 @@
 // What the program writes.
-use crate::tally::Answers;
-use crate::tally::Line;
-use crate::tally::Tally;
-use crate::which::Call;
-use crate::which::Group;
-use crate::which::List;
+use crate::came::DIFFERS;
+use crate::lists::EVENTS;
+use crate::lists::FILES;
+use crate::lists::HISTORIES;
+use crate::lists::OBJECTS;
+use crate::lists::ORDERS;
+use crate::tally::LINES;
+use crate::tally::STARTS;
+use crate::tally::UNREADABLE;
+use crate::tally::WRONG;
+use crate::tally::agreed;
+use crate::tally::asked;
+use crate::tally::count;
 use libc::STDOUT_FILENO;
 
 // Lines that are named because they differ or are unreadable, at most.
@@ -18,140 +25,176 @@ fn say_number(n: u64) {
     io::print_decimal(STDOUT_FILENO, n);
 }
 
-fn name_line(tally: Tally, what: &[u8]) {
-    if tally.wrong <= NAMED {
+// Names the last line, which is wrong, if it is one of the first such lines.
+pub fn name_line(counts: &[u64], came: u64) {
+    if count(counts, WRONG) <= NAMED {
         say(b"line ");
-        say_number(tally.lines);
-        say(what);
+        say_number(count(counts, LINES));
+        if came == DIFFERS {
+            say(b": differs\n");
+            return;
+        }
+        say(b": unreadable\n");
     }
 }
 
-// Names the last line where it differs or is unreadable, the first such lines only.
-pub fn say_line(tally: Tally, line: Line) {
-    match line {
-        Line::Start => {}
-        Line::Event => {}
-        Line::Unreadable => name_line(tally, b": unreadable\n"),
-        Line::Answer {
-            group: _,
-            call: _,
-            agrees,
-        } => {
-            if agrees {
-                return;
+// The sum, but for one that no list reaches.
+fn sum(a: u64, b: u64, c: u64) -> u64 {
+    if a <= 4294967295 {
+        if b <= 4294967295 {
+            if c <= 4294967295 {
+                return a + b + c;
             }
-            name_line(tally, b": differs\n");
         }
     }
+    u64::MAX
 }
 
-fn say_call(list: List, call: Call) {
-    match list {
-        List::Objects => match call {
-            Call::One => say(b" invoke"),
-            Call::Two => say(b" is_valid_step"),
-            Call::Three => say(b" is_valid_history"),
-        },
-        List::Events => match call {
-            Call::One => say(b" on_invoke"),
-            Call::Two => say(b" on_return"),
-            Call::Three => say(b" on_invret"),
-        },
-        List::Histories => say_judge(call),
-        List::Orders => say_judge(call),
-        List::Files => say_outcome(call),
+// The first, the second or the third.
+fn say_one(which: u64, first: &[u8], second: &[u8], third: &[u8]) {
+    if which == 0 {
+        say(first);
+        return;
+    }
+    if which == 1 {
+        say(second);
+        return;
+    }
+    say(third);
+}
+
+fn say_family(group: u64) {
+    say_one(group, b"register", b"write-once register", b"stack");
+}
+
+fn say_model(group: u64) {
+    say_one(
+        group,
+        b"sequential consistency",
+        b"linearizability",
+        b"no model",
+    );
+}
+
+fn say_group(list: u64, group: u64) {
+    if list == FILES {
+        say_model(group);
+        return;
+    }
+    say_family(group);
+}
+
+fn say_object_call(call: u64) {
+    say_one(call, b" invoke", b" is_valid_step", b" is_valid_history");
+}
+
+fn say_event(call: u64) {
+    say_one(call, b" on_invoke", b" on_return", b" on_invret");
+}
+
+fn say_judge(call: u64) {
+    say_one(
+        call,
+        b" sequential consistency",
+        b" linearizability",
+        b" other",
+    );
+}
+
+fn say_outcome(call: u64) {
+    say_one(call, b" judged", b" files refused", b" calls refused");
+}
+
+fn say_call(list: u64, call: u64) {
+    if list == OBJECTS {
+        say_object_call(call);
+        return;
+    }
+    if list == EVENTS {
+        say_event(call);
+        return;
+    }
+    if list == FILES {
+        say_outcome(call);
+        return;
+    }
+    say_judge(call);
+}
+
+// How often a list starts anew, and what with; that of files does not.
+fn say_starts(list: u64, starts: u64) {
+    if list == FILES {
+        return;
+    }
+    say_number(starts);
+    if list == OBJECTS {
+        say(b" objects, ");
+    }
+    if list == EVENTS {
+        say(b" sequences to both testers, ");
+    }
+    if list == HISTORIES {
+        say(b" histories under three budgets, ");
+    }
+    if list == ORDERS {
+        say(b" histories with proposed orders, ");
     }
 }
 
-fn say_judge(call: Call) {
-    match call {
-        Call::One => say(b" sequential consistency"),
-        Call::Two => say(b" linearizability"),
-        Call::Three => say(b" other"),
-    }
+fn say_counted(n: u64, what: &[u8]) {
+    say_number(n);
+    say(what);
 }
 
-fn say_outcome(call: Call) {
-    match call {
-        Call::One => say(b" judged"),
-        Call::Two => say(b" files refused"),
-        Call::Three => say(b" calls refused"),
-    }
+fn say_agreed(agreed: u64, asked: u64) {
+    say_counted(agreed, b" of ");
+    say_counted(asked, b" answers agree");
 }
 
-// How often the list starts anew; that of files has no starts.
-fn say_starts(list: List, starts: u64) {
-    match list {
-        List::Objects => say_number(starts),
-        List::Events => say_number(starts),
-        List::Histories => say_number(starts),
-        List::Orders => say_number(starts),
-        List::Files => {}
-    }
-    match list {
-        List::Objects => say(b" objects, "),
-        List::Events => say(b" sequences to both testers, "),
-        List::Histories => say(b" histories under three budgets, "),
-        List::Orders => say(b" histories with proposed orders, "),
-        List::Files => {}
-    }
+fn say_asked(list: u64, counts: &[u64], group: u64, call: u64) {
+    say_number(asked(counts, group, call));
+    say_call(list, call);
 }
 
-fn say_family(group: Group) {
-    match group {
-        Group::First => say(b"register"),
-        Group::Second => say(b"write-once register"),
-        Group::Third => say(b"stack"),
-    }
+fn asked_of(counts: &[u64], group: u64) -> u64 {
+    sum(
+        asked(counts, group, 0),
+        asked(counts, group, 1),
+        asked(counts, group, 2),
+    )
 }
 
-fn say_model(group: Group) {
-    match group {
-        Group::First => say(b"sequential consistency"),
-        Group::Second => say(b"linearizability"),
-        Group::Third => say(b"no model"),
-    }
-}
-
-fn say_group(list: List, group: Group) {
-    match list {
-        List::Objects => say_family(group),
-        List::Events => say_family(group),
-        List::Histories => say_family(group),
-        List::Orders => say_family(group),
-        List::Files => say_model(group),
-    }
-}
-
-fn say_answers(list: List, group: Group, answers: Answers) {
+fn say_answers(list: u64, counts: &[u64], group: u64) {
     say_group(list, group);
     say(b": ");
-    say_number(answers.ones);
-    say_call(list, Call::One);
+    say_asked(list, counts, group, 0);
     say(b", ");
-    say_number(answers.twos);
-    say_call(list, Call::Two);
+    say_asked(list, counts, group, 1);
     say(b", ");
-    say_number(answers.threes);
-    say_call(list, Call::Three);
+    say_asked(list, counts, group, 2);
     say(b": ");
-    say_number(answers.agreed);
-    say(b" of ");
-    say_number(answers.asked());
-    say(b" answers agree\n");
+    say_agreed(agreed(counts, group), asked_of(counts, group));
+    say(b"\n");
 }
 
-pub fn say_tally(list: List, tally: Tally) {
-    say_answers(list, Group::First, tally.first);
-    say_answers(list, Group::Second, tally.second);
-    say_answers(list, Group::Third, tally.third);
-    say_number(tally.lines);
-    say(b" lines: ");
-    say_starts(list, tally.starts);
-    say_number(tally.agreed());
-    say(b" of ");
-    say_number(tally.asked());
-    say(b" answers agree, ");
-    say_number(tally.unreadable);
-    say(b" unreadable\n");
+fn say_lines(list: u64, counts: &[u64]) {
+    say_counted(count(counts, LINES), b" lines: ");
+    say_starts(list, count(counts, STARTS));
+    say_agreed(
+        sum(agreed(counts, 0), agreed(counts, 1), agreed(counts, 2)),
+        sum(
+            asked_of(counts, 0),
+            asked_of(counts, 1),
+            asked_of(counts, 2),
+        ),
+    );
+    say(b", ");
+    say_counted(count(counts, UNREADABLE), b" unreadable\n");
+}
+
+pub fn say_tally(list: u64, counts: &[u64]) {
+    say_answers(list, counts, 0);
+    say_answers(list, counts, 1);
+    say_answers(list, counts, 2);
+    say_lines(list, counts);
 }

@@ -1,19 +1,17 @@
 // The verdict on a history, of one of the judges, compared with what the list says of it: under a budget
 // that just covers the search, one that falls short of it by one attempt, and the largest.
-use crate::codes::RetRead;
-use crate::codes::ret_at;
-use crate::comparison::Comparison;
-use crate::comparison::judged;
+use crate::came;
+use crate::came::judged;
+use crate::fields::first;
 use crate::fields::from;
 use crate::fields::natural;
-use crate::returns::same_ret;
+use crate::returns::is_said;
 use judging::answer::Answer;
 use judging::answer::NOBODY;
 use judging::answer::Placed;
 use judging::answer::number;
 use judging::linearizability;
 use judging::sequential_consistency;
-use semantics::Kind;
 use semantics::Ret;
 use semantics::register::RegisterRet;
 use semantics::sizes::OPERATIONS;
@@ -28,30 +26,12 @@ const UNDECIDED: u8 = 2;
 
 const INVALID: u8 = 3;
 
-// M: the model, and with it the judge.
-pub enum Model {
-    Sequential,
-    Linearizable,
-    Unknown,
-}
-
-pub fn model_at(fields: &[u64]) -> Model {
-    let model = natural(fields, 0);
+// By model 0, sequential, or 1, linearizable.
+fn judge(testers: Testers, model: u64, budget: u64) -> Answer {
     if model == 0 {
-        return Model::Sequential;
+        return sequential_consistency::judge(testers.sequential, budget);
     }
-    if model == 1 {
-        return Model::Linearizable;
-    }
-    Model::Unknown
-}
-
-fn judge(testers: Testers, model: Model, budget: u64) -> Answer {
-    match model {
-        Model::Sequential => sequential_consistency::judge(testers.sequential, budget),
-        Model::Linearizable => linearizability::judge(testers.linearizability, budget),
-        Model::Unknown => linearizability::judge(testers.linearizability, budget),
-    }
+    linearizability::judge(testers.linearizability, budget)
 }
 
 // K: what the Rust answered, as the number of a verdict: None on a valid history, an order, or None on an
@@ -70,12 +50,13 @@ fn verdict_at(fields: &[u64]) -> u8 {
     UNDECIDED
 }
 
-// Whether the line says a verdict of one of the judges, with an order exactly if there is one.
-fn is_readable(verdict: u8, fields: &[u64]) -> bool {
+// M A K: whether the line says a verdict of one of the judges, with an order exactly if there is one.
+fn is_readable(fields: &[u64]) -> bool {
+    let verdict = verdict_at(fields);
     if verdict == UNDECIDED {
         return false;
     }
-    if natural(fields, 1) == u64::MAX {
+    if 1 < natural(fields, 0) {
         return false;
     }
     if verdict == ORDER {
@@ -89,101 +70,62 @@ fn is_readable(verdict: u8, fields: &[u64]) -> bool {
 }
 
 // M A K, and for an order n and n times T OP V RET RN RV.
-pub fn compared(testers: Testers, kind: Kind, fields: &[u64]) -> Comparison {
-    let model = model_at(fields);
-    let attempts = natural(fields, 1);
-    let verdict = verdict_at(fields);
-    if is_readable(verdict, fields) {
-        let exact = judge(testers, model, attempts);
-        let large = judge(testers, model, u64::MAX);
+pub fn compared(testers: Testers, family: u64, fields: &[u64]) -> u64 {
+    if is_readable(fields) {
+        let attempts = natural(fields, 1);
+        let verdict = verdict_at(fields);
         let order = from(fields, 3);
-        if is_said(exact, verdict, attempts, kind, order) {
-            if is_said(large, verdict, attempts, kind, order) {
-                return judged(falls_short(testers, model, verdict, attempts));
+        let model = natural(fields, 0);
+        let exact = judge(testers, model, attempts);
+        if is_answer(exact, verdict, attempts, family, order) {
+            let large = judge(testers, model, u64::MAX);
+            if is_answer(large, verdict, attempts, family, order) {
+                return judged(falls_short(testers, model, attempts, first(fields, 0)));
             }
         }
-        return Comparison::Differs;
+        return came::DIFFERS;
     }
-    Comparison::Unreadable
+    came::UNREADABLE
 }
 
 // With one attempt less the verdict is Undecided, and that many attempts were made.
-fn falls_short(testers: Testers, model: Model, verdict: u8, attempts: u64) -> bool {
+fn falls_short(testers: Testers, model: u64, attempts: u64, no_order: &[u64]) -> bool {
     if attempts == 0 {
         return true;
     }
-    if verdict == INVALID {
-        return false;
-    }
     let short = judge(testers, model, attempts - 1);
-    is_without_order(short, UNDECIDED, attempts - 1)
+    is_answer(short, UNDECIDED, attempts - 1, 0, no_order)
 }
 
-fn is_said(answer: Answer, verdict: u8, attempts: u64, kind: Kind, order: &[u64]) -> bool {
-    if verdict == ORDER {
-        return is_order(answer, attempts, kind, order);
-    }
-    is_without_order(answer, verdict, attempts)
-}
-
-fn is_told(answer: Answer, verdict: u8, attempts: u64, length: u64) -> bool {
+// n, and n times T OP V RET RN RV, where there is an order: just these places, and nobody behind them.
+fn is_answer(answer: Answer, verdict: u8, attempts: u64, family: u64, order: &[u64]) -> bool {
     let said = answer.verdict;
+    let length = length_at(order);
+    let places = answer.order;
     if number(said) == verdict {
         if answer.attempts == attempts {
-            return answer.length as u64 == length;
+            if answer.length as u64 == length {
+                return are_placed(places, length, family, from(order, 1));
+            }
         }
     }
     false
 }
 
-fn is_without_order(answer: Answer, verdict: u8, attempts: u64) -> bool {
-    if is_told(answer, verdict, attempts, 0) {
-        return is_empty_from(answer, 0);
+// n; no order has no places.
+fn length_at(order: &[u64]) -> u64 {
+    if order.len() == 0 {
+        return 0;
     }
-    false
+    natural(order, 0)
 }
 
-// n, and n times T OP V RET RN RV: just these places, and nobody behind them.
-fn is_order(answer: Answer, attempts: u64, kind: Kind, order: &[u64]) -> bool {
-    let length = natural(order, 0);
-    if is_told(answer, ORDER, attempts, length) {
-        let mut i = 0;
-        while i < OPERATIONS {
-            if length <= i as u64 {
-                return is_empty_from(answer, i);
-            }
-            let placed = answer.order[i];
-            let at = 1 + 6 * i;
-            if is_place(placed, kind, from(order, at)) {
-                i += 1;
-            } else {
-                return false;
-            }
-        }
-        return true;
-    }
-    false
-}
-
-// T OP V RET RN RV
-fn is_place(placed: Placed, kind: Kind, fields: &[u64]) -> bool {
-    let ret = placed.ret;
-    match ret_at(kind, from(fields, 3)) {
-        RetRead::Unknown => false,
-        RetRead::Known(said) => {
-            if natural(fields, 0) == placed.thread as u64 {
-                return same_ret(ret, said);
-            }
-            false
-        }
-    }
-}
-
-fn is_empty_from(answer: Answer, from: usize) -> bool {
-    let mut i = from;
+fn are_placed(places: [Placed; OPERATIONS], length: u64, family: u64, order: &[u64]) -> bool {
+    let mut i = 0;
     while i < OPERATIONS {
-        let placed = answer.order[i];
-        if is_nobody(placed) {
+        let placed = places[i];
+        let at = 6 * i;
+        if is_placed(placed, (i as u64) < length, family, from(order, at)) {
             i += 1;
         } else {
             return false;
@@ -192,12 +134,26 @@ fn is_empty_from(answer: Answer, from: usize) -> bool {
     true
 }
 
-fn is_nobody(placed: Placed) -> bool {
-    if placed.thread == NOBODY {
-        let ret = placed.ret;
-        let ok = RegisterRet::WriteOk;
-        let fixed = Ret::Register(ok);
-        return same_ret(ret, fixed);
+// T OP V RET RN RV, where somebody stands at the place.
+fn is_placed(placed: Placed, somebody: bool, family: u64, fields: &[u64]) -> bool {
+    let ret = placed.ret;
+    if somebody {
+        if natural(fields, 0) == placed.thread as u64 {
+            return is_said(ret, family, from(fields, 3));
+        }
+        return false;
     }
-    false
+    placed.thread == NOBODY && is_fixed(ret)
+}
+
+// What stands behind an order: a register's WriteOk.
+fn is_fixed(ret: Ret) -> bool {
+    match ret {
+        Ret::Register(r) => match r {
+            RegisterRet::WriteOk => true,
+            RegisterRet::ReadOk(_) => false,
+        },
+        Ret::WORegister(_) => false,
+        Ret::Vec(_) => false,
+    }
 }

@@ -4,10 +4,10 @@ use Rattle.replay.proofs.calls.walked.Statement.{statement}
 use Rattle.replay.proofs.calls.walked.Tie as tie
 
 abbrev Inv-loop : tie.InvT-loop
-Inv-loop object fields steps walk₀ at₀ left₀ walk at left = Unit
+Inv-loop family object fields steps walk₀ at₀ left₀ walk at left = Unit
 
 abbrev μ-loop : tie.MeasureT-loop
-μ-loop object fields steps walk₀ at₀ left₀ walk at left = left
+μ-loop family object fields steps walk₀ at₀ left₀ walk at left = left
 
 natural-requires : tie.Need-natural-requires Inv-loop μ-loop
 natural-requires c κs = search needs
@@ -45,8 +45,8 @@ loop-again c = search needs
 from-requires-2 : tie.Need-from-requires-2 Inv-loop μ-loop
 from-requires-2 c κs = search needs
 
-is-said-requires : tie.Need-is-said-requires Inv-loop μ-loop
-is-said-requires c κs = search needs
+ended-requires : tie.Need-ended-requires Inv-loop μ-loop
+ended-requires c κs = search needs
 
 returns-2 : tie.Need-returns-2 Inv-loop μ-loop
 returns-2 c = search needs
@@ -75,7 +75,7 @@ walked-spec =
     loop-less
     loop-again
     from-requires-2
-    is-said-requires
+    ended-requires
     returns-2
     unreadable-requires-2
     returns-3)
