@@ -28,7 +28,7 @@ use Rattle.corpus.specs.declared.header.Header.{Header}
 use Rattle.corpus.specs.Reader.{Read, got, refused}
 use Rattle.corpus.specs.Answers.{asNumber, asMaybe, asOp, asRet, heard, asEvent, asHeader}
 
-never : {A : Type 0} → _≡_ {A = ℕ} 0 1 → A
+pub never : {A : Type 0} → _≡_ {A = ℕ} 0 1 → A
 never z = absurd (omega arith)
 
 module _ {r : NumberRead} where

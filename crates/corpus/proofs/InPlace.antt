@@ -28,7 +28,7 @@ use Rattle.recording.specs.Shape.{family, notesShaped}
 use Rattle.recording.specs.Events.{numberOf, isTaken, step, invokeOf, returnOf, madeOf}
 use Rattle.recording.specs.Testers.{linearizability, shapedTester, notesWith, linearizabilityAfter, invokedBy, linearizabilityInvoke, linearizabilityReturn}
 use Rattle.recording.specs.Pass.{Looks, placeIn, placeAt, admitOf, validAfter, notedAt}
-use Rattle.recording.specs.Admitting as admitting
+use Rattle.recording.proofs.Admitting as admitting
 use Rattle.reading.specs.Models.{linearizabilityModel}
 use Rattle.reading.specs.Inputs.{give}
 use Rattle.reading.specs.Beginning.{startOf, begun-is, begun-family}
@@ -37,10 +37,7 @@ use Rattle.reading.specs.Turns.{Good, good-shaped}
 use Rattle.reading.specs.Reaching.{good-new}
 use Rattle.reading.specs.Feeding.{good-give, new-valid}
 use Rattle.reading.specs.Marks.{Marks, marks-fresh, marks-extended, marks-completed}
-use Rattle.corpus.specs.declared.events.Event.{Event as CEvent}
-use Rattle.corpus.specs.declared.events.Event.the-variants.{Invoked, Returned}
-use Rattle.corpus.specs.Answers.{heard}
-use Rattle.corpus.specs.Feeding.{comesTo}
+use Rattle.corpus.specs.Turns.{comesBy}
 
 -- the number says whether it is taken
 
@@ -115,22 +112,22 @@ module _ (h : History) (notes flying : List ℕ) (f : ℕ) (S : Standing h notes
   abbrev off : Bool → History
   off v = record { start = h .start; ops = h .ops; count = h .count; done = h .done; valid = v }
 
-  module _ (t : ℕ) (op : Op) (r : Recorded) (e : r ≡ comesTo flying f (h .count) (Invoked t op)) where
+  module _ (t : ℕ) (op : Op) (r : Recorded) (e : r ≡ comesBy flying f (h .count) (invoked t op)) where
     steps : admitting.outcome h r (extended h t op) ≡ invokeOf (shapedTester s) h t op
-    unfolding comesTo
+    unfolding comesBy
     steps =
         admitting.invoked (notesShaped s) h look found t (placeIn flying t) refl (opFamily op) f (S .own) (admitOf true true t (eqb (opFamily op) f))
         (let-in t (opFamily op)) op refl r e
 
     -- an invocation that is taken has a thread and room
     pub invoke-fits : isTaken r ≡ true → (t < threads) × (h .count < capacity)
-    unfolding comesTo
+    unfolding comesBy
     invoke-fits k =
         admitting.invoked-in (notesShaped s) h look found t (placeIn flying t) refl (opFamily op) f (S .own)
         (admitOf true true t (eqb (opFamily op) f)) (let-in t (opFamily op)) r e k
 
     free : isTaken r ≡ true → findFlying t h ≡ Nothing
-    unfolding comesTo
+    unfolding comesBy
     free k =
         admitting.invoked-free (notesShaped s) h look found t (placeIn flying t) refl (opFamily op) f (S .own)
         (admitOf true true t (eqb (opFamily op) f)) (let-in t (opFamily op)) r e k
@@ -164,25 +161,25 @@ module _ (h : History) (notes flying : List ℕ) (f : ℕ) (S : Standing h notes
           marks = marks-extended h flying (S .long) (S .marks) t (w .0) op (S .good .sized) (w .1) (free k);
         }
 
-  module _ (t : ℕ) (ret : Ret) (r : Recorded) (e : r ≡ comesTo flying f (h .count) (Returned t ret)) where
+  module _ (t : ℕ) (ret : Ret) (r : Recorded) (e : r ≡ comesBy flying f (h .count) (returned t ret)) where
     abbrev i : ℕ
     i = placeAt (placeIn flying t)
 
     back : admitting.outcome h r (completed h i t ret) ≡ returnOf (shapedTester s) h t ret
-    unfolding comesTo
+    unfolding comesBy
     back =
         admitting.returned (notesShaped s) h look found t (placeIn flying t) refl (retFamily ret) f (S .own) (admitOf true true t (eqb (retFamily ret) f))
         (let-in t (retFamily ret)) ret refl r e
 
     -- a return that is taken has a thread and a place, and one more fits the counter
     pub return-fits : isTaken r ≡ true → (t < threads) × ((placeAt (placeIn flying t) < capacity) × (getD (h .done) t 0 ≤ capacity))
-    unfolding comesTo
+    unfolding comesBy
     return-fits k =
         admitting.returned-in (notesShaped s) h look found t (placeIn flying t) refl (retFamily ret) f (S .own)
         (admitOf true true t (eqb (retFamily ret) f)) (let-in t (retFamily ret)) r e k
 
     here : isTaken r ≡ true → findFlying t h ≡ At i
-    unfolding comesTo
+    unfolding comesBy
     here k =
         admitting.returned-at (notesShaped s) h look found t (placeIn flying t) refl (retFamily ret) f (S .own)
         (admitOf true true t (eqb (retFamily ret) f)) (let-in t (retFamily ret)) r e k
@@ -212,9 +209,9 @@ module _ (h : History) (notes flying : List ℕ) (f : ℕ) (S : Standing h notes
     }
 
   -- a refusal leaves all but the validity
-  pub event-refused : (v : CEvent) (r : Recorded) → r ≡ comesTo flying f (h .count) v → isTaken r ≡ false → (b : Bool) → b ≡ validAfter true r
-      → (r ≡ give linearizabilityModel (linearizability h notes) (heard v) .0)
+  pub event-refused : (v : Event families) (r : Recorded) → r ≡ comesBy flying f (h .count) v → isTaken r ≡ false → (b : Bool) → b ≡ validAfter true r
+      → (r ≡ give linearizabilityModel (linearizability h notes) v .0)
       × (linearizability (record { start = h .start; ops = h .ops; count = h .count; done = h .done; valid = b }) notes
-      ≡ give linearizabilityModel (linearizability h notes) (heard v) .1)
-  event-refused (Invoked t op) r e k b q = let w = invoke-refused t op r e k b q in (w .comes, w .leaves)
-  event-refused (Returned t ret) r e k b q = let w = return-refused t ret r e k b q in (w .comes, w .leaves)
+      ≡ give linearizabilityModel (linearizability h notes) v .1)
+  event-refused (invoked t op) r e k b q = let w = invoke-refused t op r e k b q in (w .comes, w .leaves)
+  event-refused (returned t ret) r e k b q = let w = return-refused t ret r e k b q in (w .comes, w .leaves)

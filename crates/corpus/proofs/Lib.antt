@@ -6,3 +6,4 @@ pub mod Starting
 pub mod Loading
 pub mod InPlace
 pub mod Turning
+pub mod Loop

@@ -2,7 +2,7 @@ pub mod Refusals
 pub mod Reader
 pub mod Format
 pub mod Answers
-pub mod Feeding
+pub mod Turns
 pub mod SameBytes
 pub mod Groups
 pub mod Taking

@@ -9,4 +9,5 @@ mod operations;
 pub mod refusal;
 mod returns;
 pub mod sequential_consistency;
+mod turns;
 mod values;

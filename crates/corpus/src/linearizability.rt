@@ -34,7 +34,9 @@ pub fn load(file: &[u8]) -> Loaded
         },
         Begins::At(first) => {
             let kind = start.kind;
-            feed(tester, file, first, kind)
+            let history = tester.history;
+            let notes = tester.notes;
+            feed(history, notes, file, first, kind)
         }
     }
 }

@@ -18,7 +18,6 @@ use Rattle.semantics.specs.declared.Ret.{Ret}
 use Rattle.semantics.specs.declared.placing.Outcome.the-variants.{Pending, Returned}
 use Rattle.recording.specs.declared.consistency_tester.Operation.{Operation}
 use Rattle.recording.specs.declared.consistency_tester.History.{History}
-use Rattle.recording.specs.declared.consistency_tester.Flying.{Flying}
 use Rattle.recording.specs.declared.consistency_tester.Flying.the-variants.{At, Nothing}
 use Rattle.recording.specs.Record.{operation, held, fresh, isPending, flyingBy, flyingFrom, findFlying, extended, completed}
 use Rattle.recording.specs.Shape.{noneOf, flyingLast}

@@ -19,8 +19,7 @@ use Rattle.recording.specs.declared.shape.Look.{Look}
 use Rattle.recording.specs.Record.{blankOperation, held, operationAt, findFlying}
 use Rattle.recording.specs.Shape.{family, outcomeFits, operationFits, shapeOf, shapedWith}
 use Rattle.recording.specs.Pass.{Looks, sizesFit, goesOn, countsIn, leftAfter, flyingAfter, noneLeft}
-use Rattle.recording.specs.Tests.{neither, both, never}
-use Rattle.recording.proofs.Laws.{held-cons, held-end}
+use Rattle.recording.proofs.Laws.{held-cons, held-end, neither, both, never}
 use Rattle.recording.proofs.Passing.{rest, located, rest-start, located-start, rest-end, located-end, rest-unfit, rest-no, rest-yes, located-step}
 
 -- before the operation at place i

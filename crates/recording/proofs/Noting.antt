@@ -19,7 +19,7 @@ use Rattle.recording.specs.Record.{findFlying}
 use Rattle.recording.specs.Shape.{family}
 use Rattle.recording.specs.Events.{isTaken, unless, step, invokeBy, invokeOf}
 use Rattle.recording.specs.Testers.{shapedTester, notesWith, notesAfter, linearizabilityAfter, invokedBy, linearizabilityInvoke}
-use Rattle.recording.specs.Tests.{never}
+use Rattle.recording.proofs.Laws.{never}
 
 -- there is room, and the thread is one of the eight
 pub taken-in : (shaped : Bool) (h : History) (t : ℕ) (op : Op) (s : Step) → s ≡ invokeOf shaped h t op → isTaken (s .recorded) ≡ true

@@ -22,7 +22,7 @@ use Rattle.recording.specs.declared.consistency_tester.Flying.the-varian
 use Rattle.recording.specs.Record.{held, isPending, flyingBy, flyingFrom, findFlying}
 use Rattle.recording.specs.Shape.{family, doneBy, countDone, operationFits, operationsFit, noneOf, flyingLast, countsRight, shapeOf}
 use Rattle.recording.specs.Pass.{placeOf, countsBy, goesOn, leftAfter, flyingAfter, noneLeft}
-use Rattle.recording.specs.Tests.{neither, both, below-no, below-same}
+use Rattle.recording.proofs.Laws.{neither, both, below-no, below-same}
 
 -- no operation of a thread that has a mark
 unfoldable pub clear : List ℕ → List Operation → Bool

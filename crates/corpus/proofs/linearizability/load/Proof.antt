@@ -28,9 +28,9 @@ enum-known-begins-2 c = search needs
 
 feed-requires : tie.Need-feed-requires
 feed-requires c κs =
-    let file = c .before .before .before .before .before .before .before .before .args .file .now in
-    let head = header-got (header file) (c .before .before .before .before .before .before .read-header .ensures) (c .before .begins2 .given .1) in
-    let fresh = ap (λ (y : New). y .tester) (c .before .before .before .before .new .ensures) in
+    let file = c .before .before .before .before .before .before .before .before .before .before .args .file .now in
+    let head = header-got (header file) (c .before .before .before .before .before .before .before .before .read-header .ensures) (c .before .before .before .begins2 .given .1) in
+    let fresh = ap (λ (y : New). y .tester) (c .before .before .before .before .before .before .new .ensures) in
     (record { start = _; of-kind = refl; new = fresh }, (first-in header 6 header-field file _ _ head .1, header-short file _ _ head))
 
 returns : tie.Need-returns
@@ -44,10 +44,10 @@ returns c =
 
 returns-2 : tie.Need-returns-2
 returns-2 c =
-    let file = c .before .before .before .before .before .before .before .before .before .args .file .now in
-    let head = header-got (header file) (c .before .before .before .before .before .before .before .read-header .ensures)
-    (c .before .before .begins2 .given .1) in
-    let fresh = ap (λ (y : New). y .tester) (c .before .before .before .before .before .new .ensures) in
+    let file = c .before .before .before .before .before .before .before .before .before .before .before .args .file .now in
+    let head = header-got (header file) (c .before .before .before .before .before .before .before .before .before .read-header .ensures)
+    (c .before .before .before .before .begins2 .given .1) in
+    let fresh = ap (λ (y : New). y .tester) (c .before .before .before .before .before .before .before .new .ensures) in
     c .feed .ensures ∙ ap asLinearizability (load-fed linearizabilityModel file _ _ head _ fresh)
 
 pub load-spec : {M : Type 1} → statement M

@@ -1,8 +1,7 @@
 use mathlib.Core.Path.{sym, ap, _∙_}
 use borrow.Author.Needs.{needs}
 use Rattle.recording.specs.Testers.{sequential}
-use Rattle.corpus.specs.declared.linearizability.Loaded.{Loaded as LLoaded}
-use Rattle.corpus.specs.declared.sequential_consistency.Loaded.{Loaded}
+use Rattle.corpus.specs.declared.linearizability.Loaded.{Loaded}
 use Rattle.corpus.specs.Answers.{asSequential}
 use Rattle.corpus.specs.Alike.{loads-alike}
 use Rattle.corpus.proofs.sequential_consistency.load.Statement.{statement}
@@ -12,7 +11,7 @@ load-requires : tie.Need-load-requires
 load-requires c κs = search needs
 
 returns : tie.Need-returns
-returns c = ap (λ (l : LLoaded). record { number = l .number; place = l .place; tester = sequential (l .tester .history) }) (c .before .before .load .ensures) ∙ ap asSequential (sym (loads-alike (c .before .before .before .before .args .file .now)))
+returns c = ap (λ (l : Loaded). record { number = l .number; place = l .place; tester = sequential (l .tester .history) }) (c .before .before .load .ensures) ∙ ap asSequential (sym (loads-alike (c .before .before .before .before .args .file .now)))
 
 pub load-spec : {M : Type 1} → statement M
 load-spec = tie.close (tie.spec load-requires returns)

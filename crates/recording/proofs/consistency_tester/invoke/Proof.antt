@@ -2,7 +2,7 @@ use Prim.Native.Nat.{_-_}
 use mathlib.Core.Path.{sym, _∙_}
 use native.Mathlib.Omega.{arith}
 use borrow.Author.Needs.{needs}
-use Rattle.recording.specs.Admitting.{outcome-taken, outcome-refused, invoked, invoked-in}
+use Rattle.recording.proofs.Admitting.{outcome-taken, outcome-refused, invoked, invoked-in}
 use Rattle.recording.proofs.consistency_tester.invoke.Statement.{statement}
 use Rattle.recording.proofs.consistency_tester.invoke.Tie as tie
 

@@ -3,7 +3,7 @@ use mathlib.Core.Path.{sym, _∙_}
 use native.Mathlib.Omega.{arith}
 use borrow.Author.Needs.{needs}
 use Rattle.semantics.specs.Sizes.{capacity}
-use Rattle.recording.specs.Admitting.{outcome-taken, outcome-refused, returned, returned-in}
+use Rattle.recording.proofs.Admitting.{outcome-taken, outcome-refused, returned, returned-in}
 use Rattle.recording.proofs.consistency_tester.returns.Statement.{statement}
 use Rattle.recording.proofs.consistency_tester.returns.Tie as tie
 

@@ -7,7 +7,7 @@ use borrow.Author.Needs.{needs}
 use borrow.Author.Tests.{lt-leb, le-leb}
 use Rattle.semantics.specs.Sizes.{threads}
 use Rattle.recording.specs.Shape.{allBelow, noteAt, notable, notesFit}
-use Rattle.recording.specs.Tests.{below-no, below-more, below-end}
+use Rattle.recording.proofs.Laws.{below-no, below-more, below-end}
 use Rattle.recording.proofs.linearizability.notes_fit.Statement.{statement}
 use Rattle.recording.proofs.linearizability.notes_fit.Tie as tie
 

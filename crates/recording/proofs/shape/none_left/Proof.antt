@@ -8,7 +8,7 @@ use borrow.Author.Tests.{eq-eqb, ne-eqb}
 use Rattle.semantics.specs.Sizes.{threads}
 use Rattle.recording.specs.Pass.{noneLeft}
 use Rattle.recording.specs.Shape.{allBelow}
-use Rattle.recording.specs.Tests.{below-no, below-more, below-end}
+use Rattle.recording.proofs.Laws.{below-no, below-more, below-end}
 use Rattle.recording.proofs.shape.none_left.Statement.{statement}
 use Rattle.recording.proofs.shape.none_left.Tie as tie
 

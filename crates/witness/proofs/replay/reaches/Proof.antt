@@ -9,7 +9,7 @@ use borrow.Author.Tests.{le-leb, lt-leb}
 use Rattle.semantics.specs.Sizes.{threads}
 use Rattle.recording.specs.Shape.{allBelow}
 use Rattle.witness.specs.Playing.{reachesOf}
-use Rattle.recording.specs.Tests.{below-no, below-more, below-end}
+use Rattle.recording.proofs.Laws.{below-no, below-more, below-end}
 use Rattle.witness.proofs.replay.reaches.Statement.{statement}
 use Rattle.witness.proofs.replay.reaches.Tie as tie
 

@@ -6,7 +6,7 @@ use borrow.Author.Needs.{needs}
 use Rattle.recording.specs.Events.{invokeOf}
 use Rattle.recording.specs.Shape.{shapedWith}
 use Rattle.recording.specs.Testers.{shapedTester}
-use Rattle.recording.specs.Admitting.{noted-in}
+use Rattle.recording.proofs.Admitting.{noted-in}
 use Rattle.recording.proofs.Noting.{taken-in, invoked-yes, invoked-no}
 use Rattle.recording.proofs.linearizability.LinearizabilityTester.on_invoke.Statement.{statement}
 use Rattle.recording.proofs.linearizability.LinearizabilityTester.on_invoke.Tie as tie

@@ -23,8 +23,8 @@ use Rattle.recording.specs.Shape.{family, shapedWith}
 use Rattle.recording.specs.Events.{isTaken, unless, step, invokeBy, invokeOf, returnBy, returnOf, sizeOf}
 use Rattle.recording.specs.Testers.{notesWith}
 use Rattle.recording.specs.Pass.{Looks, placeIn, placeAt, admitBy, admitOf, invokeGo, invokeCheck, returnGo, returnCheck, validAfter, notedAt}
-use Rattle.recording.specs.Tests.{never}
-use Rattle.recording.specs.Held.{place-small, done-small}
+use Rattle.recording.proofs.Laws.{never}
+use Rattle.recording.proofs.Held.{place-small, done-small}
 
 -- what the code hands back for what an event came to: the history as it is after the event, or as it came but for its validity
 abbrev pub outcome : History → Recorded → History → Step

@@ -16,7 +16,7 @@ use Rattle.recording.specs.declared.consistency_tester.Flying.{Flying}
 use Rattle.recording.specs.declared.consistency_tester.Flying.the-variants.{At, Nothing}
 use Rattle.recording.specs.Record.{held, flyingBy, flyingFrom, findFlying}
 use Rattle.recording.specs.Shape.{family, doneBy, countDone, operationsFit, flyingLast, countsRight, shapeOf, shapedWith}
-use Rattle.recording.specs.Tests.{both, never, below-at}
+use Rattle.recording.proofs.Laws.{both, never, below-at}
 
 -- what is found is among what is held
 

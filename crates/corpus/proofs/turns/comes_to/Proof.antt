@@ -1,8 +1,8 @@
 use mathlib.Core.Path.{refl, _∙_}
 use borrow.Author.Needs.{needs}
-use Rattle.corpus.specs.Feeding.{comesTo}
-use Rattle.corpus.proofs.feeding.comes_to.Statement.{statement}
-use Rattle.corpus.proofs.feeding.comes_to.Tie as tie
+use Rattle.corpus.specs.Turns.{comesBy}
+use Rattle.corpus.proofs.turns.comes_to.Statement.{statement}
+use Rattle.corpus.proofs.turns.comes_to.Tie as tie
 
 enum-known-event : tie.Need-enum-known-event
 enum-known-event c = search needs
@@ -35,12 +35,18 @@ check-return-requires : tie.Need-check-return-requires
 check-return-requires c κs = search needs
 
 returns : tie.Need-returns
-unfolding comesTo
-returns c = rw (c .before .before .before .before .before .event .given .1) (c .check-invoke .ensures ∙ rw (c .before .place-in .ensures, c .before .before .admit .ensures, c .before .before .before .op-family .ensures) refl)
+unfolding comesBy
+returns c =
+    rw (c .before .before .before .before .before .event .given .1)
+    (c .check-invoke .ensures
+    ∙ rw (c .before .place-in .ensures, c .before .before .admit .ensures, c .before .before .before .op-family .ensures) refl)
 
 returns-2 : tie.Need-returns-2
-unfolding comesTo
-returns-2 c = rw (c .before .before .before .before .before .event2 .given .1) (c .check-return .ensures ∙ rw (c .before .place-in2 .ensures, c .before .before .admit2 .ensures, c .before .before .before .ret-family .ensures) refl)
+unfolding comesBy
+returns-2 c =
+    rw (c .before .before .before .before .before .event2 .given .1)
+    (c .check-return .ensures
+    ∙ rw (c .before .place-in2 .ensures, c .before .before .admit2 .ensures, c .before .before .before .ret-family .ensures) refl)
 
 pub comes-to-spec : {M : Type 1} → statement M
 comes-to-spec =
