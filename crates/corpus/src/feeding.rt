@@ -22,7 +22,7 @@ ghost use Rattle.corpus.specs.Answers.{asLinearizability};
 ghost use Rattle.corpus.specs.Turns.{Fresh};
 
 // The events from a place to the end, recorded by a fresh tester.
-pub fn feed(
+pub(crate) fn feed(
     mut history: History,
     mut notes: [u8; NOTES],
     file: &[u8],

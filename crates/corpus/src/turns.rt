@@ -78,7 +78,7 @@ fn taken(event: Event, flying: &[u8; THREADS], used: usize) -> Turn
 }
 
 // The event at a place; what follows it is handed on as the rest of the file.
-pub fn turn_at(
+pub(crate) fn turn_at(
     file: &[u8],
     at: usize,
     kind: Kind,

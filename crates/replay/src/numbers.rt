@@ -11,7 +11,7 @@ pub const LONGEST: usize = 1200;
 const TOO_LARGE: u64 = 4294967296;
 
 // The place behind the line that a place is in.
-pub fn line_end(text: &[u8], from: usize) -> usize
+pub(crate) fn line_end(text: &[u8], from: usize) -> usize
     requires { ⌜ from < length (now text) ⌝ }
     ensures { λ r. ⌜ from < r ⌝ }
 {
