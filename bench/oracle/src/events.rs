@@ -6,7 +6,7 @@ mod transcript;
 mod wild;
 
 use crate::family::Family;
-use crate::random::Random;
+use capture::Random;
 use stateright::semantics::register::Register;
 use stateright::semantics::write_once_register::WORegister;
 

@@ -4,7 +4,7 @@ mod register;
 mod stack;
 mod write_once;
 
-use crate::random::Random;
+use capture::Random;
 use stateright::semantics::SequentialSpec;
 use std::fmt::Debug;
 

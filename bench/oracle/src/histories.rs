@@ -13,7 +13,7 @@ mod traces;
 mod transcript;
 
 use crate::family::Family;
-use crate::random::Random;
+use capture::Random;
 use stateright::semantics::register::Register;
 use stateright::semantics::write_once_register::WORegister;
 

@@ -5,8 +5,8 @@ mod family;
 mod histories;
 mod line;
 mod objects;
-mod random;
 mod testers;
+mod values;
 
 use std::process::ExitCode;
 

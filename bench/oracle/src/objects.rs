@@ -7,7 +7,7 @@ mod transcript;
 mod walks;
 
 use crate::family::Family;
-use crate::random::Random;
+use capture::Random;
 use stateright::semantics::register::Register;
 use stateright::semantics::write_once_register::WORegister;
 

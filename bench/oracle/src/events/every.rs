@@ -2,8 +2,8 @@
 
 use super::transcript::{Kind, Transcript, KINDS};
 use crate::family::Family;
-use crate::random::Random;
 use crate::testers::THREADS;
+use capture::Random;
 
 const EVENTS: u32 = 3;
 

@@ -4,8 +4,8 @@
 use super::transcript::{Kind, Transcript};
 use super::wild;
 use crate::family::Family;
-use crate::random::Random;
 use crate::testers::{OPERATIONS, THREADS};
+use capture::Random;
 
 /// The refused event that ends the order, if any: an invoke or both calls on a busy thread, a return of
 /// one that is not.

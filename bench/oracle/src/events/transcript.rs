@@ -2,8 +2,8 @@
 
 use crate::family::Family;
 use crate::line;
-use crate::random::Random;
 use crate::testers::{Testers, OPERATIONS, THREADS};
+use capture::Random;
 
 const START: i64 = 0;
 

@@ -2,8 +2,8 @@
 
 use super::transcript::{Transcript, KINDS};
 use crate::family::Family;
-use crate::random::Random;
 use crate::testers::THREADS;
+use capture::Random;
 
 const COUNT: usize = 300;
 

@@ -1,5 +1,6 @@
 use super::{carried, Family, VALUES};
-use crate::random::Random;
+use crate::values::{value, values};
+use capture::Random;
 use stateright::semantics::register::{Register, RegisterOp, RegisterRet};
 
 impl Family for Register<i32> {
@@ -10,7 +11,7 @@ impl Family for Register<i32> {
     }
 
     fn random_start(random: &mut Random) -> Vec<i32> {
-        random.values(1)
+        values(random, 1)
     }
 
     fn holding(values: &[i32]) -> Self {
@@ -49,7 +50,7 @@ impl Family for Register<i32> {
 
     fn random_operation(&self, random: &mut Random) -> Self::Op {
         match random.below(2) {
-            0 => RegisterOp::Write(random.value()),
+            0 => RegisterOp::Write(value(random)),
             _ => RegisterOp::Read,
         }
     }
@@ -57,7 +58,7 @@ impl Family for Register<i32> {
     fn random_return(&self, random: &mut Random) -> Self::Ret {
         match random.below(3) {
             0 => RegisterRet::WriteOk,
-            _ => RegisterRet::ReadOk(random.value()),
+            _ => RegisterRet::ReadOk(value(random)),
         }
     }
 

@@ -1,5 +1,6 @@
 use super::{carried, Family, VALUES};
-use crate::random::Random;
+use crate::values::{value, values};
+use capture::Random;
 use stateright::semantics::vec::{VecOp, VecRet};
 
 /// How many values the port's stack has room for: no stack of the list holds more.
@@ -25,7 +26,7 @@ impl Family for Vec<i32> {
     fn random_start(random: &mut Random) -> Vec<i32> {
         let many = random.below(START + 1);
         let count = random.pick(&[0, 1, 2, 3, many]);
-        random.values(count)
+        values(random, count)
     }
 
     fn holding(values: &[i32]) -> Self {
@@ -65,7 +66,7 @@ impl Family for Vec<i32> {
 
     fn random_operation(&self, random: &mut Random) -> Self::Op {
         match random.below(5) {
-            0 | 1 if self.len() < ROOM => VecOp::Push(random.value()),
+            0 | 1 if self.len() < ROOM => VecOp::Push(value(random)),
             4 => VecOp::Len,
             _ => VecOp::Pop,
         }
@@ -76,7 +77,7 @@ impl Family for Vec<i32> {
             0 => VecRet::PushOk,
             1 => VecRet::PopOk(None),
             2 => VecRet::LenOk(random.pick(&[0, 1, self.len() + 1, self.len()])),
-            _ => VecRet::PopOk(Some(random.value())),
+            _ => VecRet::PopOk(Some(value(random))),
         }
     }
 

@@ -1,5 +1,6 @@
 use super::{carried, Family, VALUES};
-use crate::random::Random;
+use crate::values::{value, values};
+use capture::Random;
 use stateright::semantics::write_once_register::{WORegister, WORegisterOp, WORegisterRet};
 
 impl Family for WORegister<i32> {
@@ -14,7 +15,7 @@ impl Family for WORegister<i32> {
 
     fn random_start(random: &mut Random) -> Vec<i32> {
         let count = random.pick(&[0, 0, 0, 1]);
-        random.values(count)
+        values(random, count)
     }
 
     fn holding(values: &[i32]) -> Self {
@@ -55,7 +56,7 @@ impl Family for WORegister<i32> {
 
     fn random_operation(&self, random: &mut Random) -> Self::Op {
         match random.below(2) {
-            0 => WORegisterOp::Write(random.value()),
+            0 => WORegisterOp::Write(value(random)),
             _ => WORegisterOp::Read,
         }
     }
@@ -65,7 +66,7 @@ impl Family for WORegister<i32> {
             0 => WORegisterRet::WriteOk,
             1 => WORegisterRet::WriteFail,
             2 => WORegisterRet::ReadOk(None),
-            _ => WORegisterRet::ReadOk(Some(random.value())),
+            _ => WORegisterRet::ReadOk(Some(value(random))),
         }
     }
 

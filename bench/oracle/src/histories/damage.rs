@@ -2,8 +2,8 @@
 
 use super::history::{Event, History};
 use crate::family::Family;
-use crate::random::Random;
 use crate::testers::THREADS;
+use capture::Random;
 
 /// The events that stay after one out of turn, at most.
 const AFTER: usize = 3;

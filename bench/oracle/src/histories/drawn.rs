@@ -5,8 +5,8 @@ use super::history::History;
 use super::life::{self, End, Shape, ENDS};
 use super::transcript;
 use crate::family::Family;
-use crate::random::Random;
 use crate::testers::{OPERATIONS, THREADS};
+use capture::Random;
 use std::ops::RangeInclusive;
 
 #[derive(Clone, Copy)]

@@ -4,8 +4,8 @@ use super::history::History;
 use super::life::{self, End, Shape, ENDS};
 use super::transcript;
 use crate::family::Family;
-use crate::random::Random;
 use crate::testers::{OPERATIONS, THREADS};
+use capture::Random;
 
 pub fn text<F: Family>(random: &mut Random) -> String {
     let mut text: String = F::starts()

@@ -2,7 +2,8 @@
 
 use super::transcript::Transcript;
 use crate::family::{Family, ROOM};
-use crate::random::Random;
+use crate::values::values;
+use capture::Random;
 use stateright::semantics::vec::{VecOp, VecRet};
 
 type Stack = Vec<i32>;
@@ -20,7 +21,7 @@ pub fn answers(random: &mut Random) -> String {
 
 fn by_invoke(random: &mut Random) -> String {
     let mut transcript = Transcript::<Stack>::starting(&[]);
-    for value in random.values(ROOM) {
+    for value in values(random, ROOM) {
         transcript.invoke(VecOp::Push(value));
     }
     transcript.invoke(VecOp::Len);
@@ -33,7 +34,7 @@ fn by_invoke(random: &mut Random) -> String {
 
 fn by_step(random: &mut Random) -> String {
     let mut transcript = Transcript::<Stack>::starting(&[]);
-    for value in random.values(ROOM) {
+    for value in values(random, ROOM) {
         transcript.step(VecOp::Push(value), VecRet::PushOk);
     }
     steps_that_keep(&mut transcript);
@@ -64,7 +65,7 @@ fn steps_that_keep(transcript: &mut Transcript<Stack>) {
 
 /// A wrong Pop pops all the same, down to the empty stack and there again.
 fn by_wrong_pops(random: &mut Random) -> String {
-    let mut transcript = Transcript::<Stack>::starting(&random.values(ROOM));
+    let mut transcript = Transcript::<Stack>::starting(&values(random, ROOM));
     for place in 0..ROOM + 3 {
         let wrong = match transcript.object.last() {
             Some(_) if place % 3 == 0 => None,
@@ -77,7 +78,7 @@ fn by_wrong_pops(random: &mut Random) -> String {
 }
 
 fn by_history(random: &mut Random) -> String {
-    let values = random.values(ROOM);
+    let values = values(random, ROOM);
     let lives = [
         vec![there_and_back(&values)],
         vec![pushes(&values), pops(&values)],

@@ -2,7 +2,7 @@
 
 use super::transcript::Transcript;
 use crate::family::Family;
-use crate::random::Random;
+use capture::Random;
 
 const LENGTHS: [usize; 10] = [0, 1, 2, 3, 5, 8, 13, 21, 34, 64];
 const ROUNDS: usize = 3;

@@ -3,7 +3,7 @@
 use super::histories;
 use super::transcript::Transcript;
 use crate::family::Family;
-use crate::random::Random;
+use capture::Random;
 
 /// The steps of a short history, at most.
 const SHORT: usize = 5;
