@@ -17,19 +17,21 @@ use Rattle.host.specs.Call.{callAnswer}
 abbrev pub verdict-byte : List ℕ → ℕ → ℕ → List ℕ → ℕ
 verdict-byte file model budget answer = getD (callAnswer file model budget answer) 0 0
 
--- Of a whole capture, which is a file that is read to its end and whose every event is recorded: whether the events that it spells, from the
--- object of its header on, meet the model; and the attempts of the search without a budget.
-module _ (M : Model) (Meets : State → Events families → Type 0) (file : List ℕ) where
-  abbrev pub Met : Whole M file → Type 0
-  Met c = Meets (holds (c .start)) (c .events)
-
+-- A whole capture is a file that is read to its end and whose every event is recorded.
+module _ (M : Model) (file : List ℕ) where
+  -- The attempts of the search without a budget on what it records.
   abbrev pub attempts-of : Whole M file → ℕ
   attempts-of c = needed M (fed M (c .start) (c .events))
 
-  pub record Tells (budget verdict : ℕ) : Type 0 where
-    -- green exactly if the file is a whole capture, the budget covers the search, and the events meet the model
-    pub green : (verdict ≡ 0) ↔ ((c : Whole M file) × (attempts-of c ≤ budget) × Met c)
-    -- No order exactly if it is whole, the budget covers the search, and they do not
-    pub no-order : (verdict ≡ 1) ↔ ((c : Whole M file) × (attempts-of c ≤ budget) × (Met c → ⊥))
-    -- Undecided exactly if it is whole, and the budget falls short
-    pub undecided : (verdict ≡ 2) ↔ ((c : Whole M file) × (budget < attempts-of c))
+  module _ (Meets : State → Events families → Type 0) where
+    -- The events that it spells, from the object of its header on, meet the model.
+    abbrev pub Met : Whole M file → Type 0
+    Met c = Meets (holds (c .start)) (c .events)
+
+    pub record Tells (budget verdict : ℕ) : Type 0 where
+      -- green exactly if the file is a whole capture, the budget covers the search, and the events meet the model
+      pub green : (verdict ≡ 0) ↔ ((c : Whole M file) × (attempts-of c ≤ budget) × Met c)
+      -- No order exactly if it is whole, the budget covers the search, and they do not
+      pub no-order : (verdict ≡ 1) ↔ ((c : Whole M file) × (attempts-of c ≤ budget) × (Met c → ⊥))
+      -- Undecided exactly if it is whole, and the budget falls short
+      pub undecided : (verdict ≡ 2) ↔ ((c : Whole M file) × (budget < attempts-of c))

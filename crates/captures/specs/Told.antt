@@ -56,25 +56,25 @@ module _ (M : Model) (L : Lawful M) (Meets : State → Events families → Type 
     kept = unbroken M (c .events) (M .new (c .start)) (c .recorded)
 
     -- all of its events count, from the header's object on
-    met-is : Meets (start-of M (M .new (c .start))) (taken M (M .new (c .start)) (c .events)) ≡ Met M Meets file c
+    met-is : Meets (start-of M (M .new (c .start))) (taken M (M .new (c .start)) (c .events)) ≡ Met M file Meets c
     met-is = rw (all-taken M (c .events) (M .new (c .start)) (c .recorded), begins-with M L file c) refl
 
-    order-when : (verdict ≡ Order) ↔ ((attempts-of M Meets file c ≤ budget) × Met M Meets file c)
+    order-when : (verdict ≡ Order) ↔ ((attempts-of M file c ≤ budget) × Met M file Meets c)
     order-when = rw met-is at (fresh (c .start) (c .events) budget .order-fed kept)
 
-    no-order-when : (verdict ≡ NoOrder) ↔ ((attempts-of M Meets file c ≤ budget) × (Met M Meets file c → ⊥))
+    no-order-when : (verdict ≡ NoOrder) ↔ ((attempts-of M file c ≤ budget) × (Met M file Meets c → ⊥))
     no-order-when = rw met-is at (fresh (c .start) (c .events) budget .no-order-fed kept)
 
-    undecided-when : (verdict ≡ Undecided) ↔ (budget < attempts-of M Meets file c)
+    undecided-when : (verdict ≡ Undecided) ↔ (budget < attempts-of M file c)
     undecided-when = (λ e. judges M L (fed M (c .start) (c .events)) budget .verdict-exactly Undecided .0 e .1, λ h. only h verdict refl)
       where
-        only : budget < attempts-of M Meets file c → (v : Verdict) → verdict ≡ v → v ≡ Undecided
+        only : budget < attempts-of M file c → (v : Verdict) → verdict ≡ v → v ≡ Undecided
         only h Order e = absurd (omega (arith, order-when .0 e .0))
         only h NoOrder e = absurd (omega (arith, no-order-when .0 e .0))
         only h Undecided e = refl
         only h Invalid e = not-both (fresh (c .start) (c .events) budget .invalid-fed .0 e) kept
 
-  tells : Tells M Meets file budget (reportOf M file budget .verdict)
+  tells : Tells M file Meets budget (reportOf M file budget .verdict)
   tells =
       let w = says M L file budget in record {
         green = both (both (w .order-exactly) (by-capture Order _ order-when)) apart;
@@ -91,11 +91,11 @@ module _ (M : Model) (L : Lawful M) (Meets : State → Events families → Type 
 -- The theorem: what the first byte says of any file, under any budget, in any buffer of at least 79 bytes.
 
 pub linearizable-told : (file : List ℕ) (budget : ℕ) (answer : List ℕ) → answerSize ≤ length answer
-    → Tells linearizabilityModel (Linearizable families) file budget (verdict-byte file 1 budget answer)
+    → Tells linearizabilityModel file (Linearizable families) budget (verdict-byte file 1 budget answer)
 linearizable-told file budget answer h =
     rw (byte-is file 1 budget answer (calls file 1 budget answer .done h (omega arith))) (tells linearizabilityModel linearizability-lawful (Linearizable families) fresh-linearizable file budget)
 
 pub sequential-told : (file : List ℕ) (budget : ℕ) (answer : List ℕ) → answerSize ≤ length answer
-    → Tells sequentialModel (SequentiallyConsistent families) file budget (verdict-byte file 0 budget answer)
+    → Tells sequentialModel file (SequentiallyConsistent families) budget (verdict-byte file 0 budget answer)
 sequential-told file budget answer h =
     rw (byte-is file 0 budget answer (calls file 0 budget answer .done h (omega arith))) (tells sequentialModel sequential-lawful (SequentiallyConsistent families) fresh-sequential file budget)
