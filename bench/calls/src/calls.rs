@@ -4,12 +4,9 @@ use crate::called::{decided_by, one_pass, Called, File};
 use crate::files::{self, Written};
 use crate::reader::Read;
 use stateright::semantics::register::Register;
-use timing::histories::{histories, unbroken, History, SEED};
+use timing::histories::{histories, unbroken, History, LONG, SEED};
 use timing::summary::{Measured, Summary};
 use timing::testers::MODELS;
-
-/// A file whose search takes more attempts than this has no place in the growth table.
-const LONG: u64 = 250_000;
 
 pub fn print() {
     thousand::<Register<i32>>();

@@ -8,6 +8,9 @@ use crate::testers::{Model, Tester};
 /// The seed of all that is judged.
 pub const SEED: u64 = 2026;
 
+/// A history whose search takes more attempts than this has no place in a growth table.
+pub const LONG: u64 = 250_000;
+
 const THREADS: usize = 4;
 
 /// How often, of a hundred times, an operation is begun while others are under way: about six in ten

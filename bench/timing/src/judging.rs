@@ -3,13 +3,10 @@
 use crate::asked::{self, Asked};
 use stateright::semantics::register::Register;
 use timing::family::Family;
-use timing::histories::{histories, SEED};
+use timing::histories::{histories, LONG, SEED};
 use timing::overlap;
 use timing::summary::Summary;
 use timing::testers::MODELS;
-
-/// A history whose search takes more attempts than this has no place in the growth table.
-const LONG: u64 = 250_000;
 
 pub fn print() {
     thousand::<Register<i32>>();
