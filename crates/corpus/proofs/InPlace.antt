@@ -1,217 +1,183 @@
 -- Recording in place: what the loader does with an event is what the tester's call does.
-use Prim.Native.Nat.{ℕ, _+_, _<_, _≤_}
+use Prim.Native.Nat.{ℕ, _+_}
 use mathlib.Core.Path.{_≡_, refl, sym, ap, _∙_, subst}
-use mathlib.Core.Logic.{_≢_}
 use mathlib.Core.Bool.{Bool, true, false}
 use mathlib.Core.List.{List}
 use native.Mathlib.Omega.{arith}
-use lib.Dec.{eqb}
-use lib.ListN.{length, getD, set, replicate, length-set, length-replicate}
-use Rattle.history.specs.Events.{Event, invoked, returned}
-use Rattle.semantics.specs.Value.{pick}
-use Rattle.semantics.specs.Sizes.{threads, capacity}
-use Rattle.semantics.specs.Family.{familyOf, opFamily, retFamily}
-use Rattle.semantics.specs.Families.{families}
-use Rattle.semantics.specs.declared.Object.{Object}
-use Rattle.semantics.specs.declared.Op.{Op}
-use Rattle.semantics.specs.declared.Ret.{Ret}
+use borrow.Author.Tests.{ne-eqb}
+use lib.ListN.{length, set, replicate, length-set, length-replicate}
+use Rattle.families.specs.Value.{pick}
+use Rattle.families.specs.Sizes.{threads}
+use Rattle.families.specs.Refusals.{startCheck}
+use Rattle.families.specs.declared.Kind.{Kind}
+use Rattle.families.specs.declared.refusal.Check.the-variants.{Clear}
+use Rattle.families.specs.declared.Object.{Object}
+use Rattle.families.specs.declared.event.Event.{Event as CEvent}
+use Rattle.families.specs.declared.event.Event.the-variants.{Invoked, Returned}
 use Rattle.recording.specs.declared.consistency_tester.History.{History}
-use Rattle.recording.specs.declared.consistency_tester.Flying.the-variants.{At, Nothing}
 use Rattle.recording.specs.declared.consistency_tester.Recorded.{Recorded}
-use Rattle.recording.specs.declared.consistency_tester.Recorded.the-variants.{Taken, AlreadyInvalid, NoSuchThread, OtherFamily, InFlight, NothingInFlight, Full, OutOfShape}
 use Rattle.recording.specs.declared.linearizability.LinearizabilityTester.{LinearizabilityTester}
 use Rattle.recording.specs.declared.linearizability.After.{After}
 use Rattle.recording.specs.declared.consistency_tester.Step.{Step}
 use Rattle.recording.specs.declared.shape.Look.{Look}
-use Rattle.recording.specs.Record.{fresh, findFlying, extended, completed}
-use Rattle.recording.specs.Shape.{family, notesShaped}
-use Rattle.recording.specs.Events.{numberOf, isTaken, step, invokeOf, returnOf, madeOf}
+use Rattle.recording.specs.declared.step.Change.{Change}
+use Rattle.recording.specs.Record.{fresh}
+use Rattle.recording.specs.Shape.{kindOf, notesShaped}
+use Rattle.recording.specs.EventSteps.{isTaken, validAfter, step}
 use Rattle.recording.specs.Testers.{linearizability, shapedTester, notesWith, linearizabilityAfter, invokedBy, linearizabilityInvoke, linearizabilityReturn}
-use Rattle.recording.specs.Pass.{Looks, placeIn, placeAt, admitOf, validAfter, notedAt}
-use Rattle.recording.proofs.Admitting as admitting
-use Rattle.reading.specs.Models.{linearizabilityModel}
-use Rattle.reading.specs.Inputs.{give}
-use Rattle.reading.specs.Beginning.{startOf, begun-is, begun-family}
-use Rattle.reading.specs.Lawful.{linearizability-lawful}
-use Rattle.reading.specs.Turns.{Good, good-shaped}
-use Rattle.reading.specs.Reaching.{good-new}
-use Rattle.reading.specs.Feeding.{good-give, new-valid}
-use Rattle.reading.specs.Marks.{Marks, marks-fresh, marks-extended, marks-completed}
-use Rattle.corpus.specs.Turns.{comesBy}
+use Rattle.recording.specs.Pass.{Looks, placeIn, placeAt}
+use Rattle.recording.specs.OneStep.{
+  eventOf,
+  threadOf,
+  comesTo,
+  placeFor,
+  changed,
+  changeAt,
+  change-invoked,
+  change-returned,
+  thread-invoked,
+  mark-invoked,
+  mark-returned,
+}
+use Rattle.recording.specs.Admitting.{Fits}
+use Rattle.recording.specs.Admitting as admitting
+use Rattle.recording_meaning.specs.Models.{linearizabilityModel}
+use Rattle.recording_meaning.specs.Inputs.{give}
+use Rattle.recording_meaning.specs.Beginning.{begun-clear}
+use Rattle.recording_meaning.specs.Lawful.{linearizability-lawful}
+use Rattle.recording_meaning.specs.EventTurns.{Good, good-shaped}
+use Rattle.recording_meaning.specs.Reaching.{good-new}
+use Rattle.recording_meaning.specs.TesterFeeding.{good-give, new-valid}
+use Rattle.recording_meaning.specs.Marks.{Marks, marks-fresh, marks-extended, marks-completed}
+use Rattle.format.specs.ReadAnswers.{heard}
+use Rattle.corpus.specs.LoaderTurns.{comesBy, notedBy}
 
--- the number says whether it is taken
-
-pub taken-number : (r : Recorded) → numberOf r ≡ 0 → isTaken r ≡ true
-unfolding numberOf isTaken
-taken-number Taken e = refl
-taken-number AlreadyInvalid e = absurd (omega arith)
-taken-number NoSuchThread e = absurd (omega arith)
-taken-number OtherFamily e = absurd (omega arith)
-taken-number InFlight e = absurd (omega arith)
-taken-number NothingInFlight e = absurd (omega arith)
-taken-number Full e = absurd (omega arith)
-taken-number OutOfShape e = absurd (omega arith)
-
-pub refused-number : (r : Recorded) → numberOf r ≢ 0 → isTaken r ≡ false
-unfolding numberOf isTaken
-refused-number Taken d = absurd (d refl)
-refused-number AlreadyInvalid d = refl
-refused-number NoSuchThread d = refl
-refused-number OtherFamily d = refl
-refused-number InFlight d = refl
-refused-number NothingInFlight d = refl
-refused-number Full d = refl
-refused-number OutOfShape d = refl
-
--- The tester that the loader has in hand: in shape, valid and of family f, with the marks of what is in flight.
-pub record Standing (h : History) (notes flying : List ℕ) (f : ℕ) : Type 0 where
+-- The tester that the loader has in hand: in shape, valid and of an object k, with the marks of what is in flight.
+pub record Standing (h : History) (notes flying : List ℕ) (k : Kind) : Type 0 where
   pub good : Good linearizabilityModel linearizability-lawful (linearizability h notes)
   pub valid : h .valid ≡ true
-  pub own : f ≡ family h
+  pub own : k ≡ kindOf h
   pub long : length flying ≡ threads
   pub marks : Marks flying h
 
-pub standing-new : (start : Object) (f : ℕ) → f ≡ familyOf (start .kind)
-    → Standing (linearizabilityModel .new start .history) (linearizabilityModel .new start .notes) (replicate threads 0) f
+pub standing-new : (start : Object) (k : Kind) → k ≡ start .kind → startCheck (start .kind) ≡ Clear
+    → Standing (linearizabilityModel .new start .history) (linearizabilityModel .new start .notes) (replicate threads 0) k
 unfolding fresh
-standing-new start f q =
-    let o = startOf (madeOf start) start in
-    let e : linearizabilityModel .new start .history ≡ fresh o = linearizability-lawful .begins start .0 ∙ begun-is start .1 in
+standing-new start k q clear =
+    let e : linearizabilityModel .new start .history ≡ fresh start = linearizability-lawful .begins start .0 ∙ begun-clear start clear in
     record {
       good = good-new linearizabilityModel linearizability-lawful start;
       valid = new-valid linearizabilityModel linearizability-lawful start;
-      own = q ∙ sym (begun-family start) ∙ ap family (sym e);
+      own = q ∙ ap kindOf (sym e);
       long = length-replicate {A = ℕ} threads 0;
-      marks = subst (Marks (replicate threads 0)) (sym e) (marks-fresh o);
+      marks = subst (Marks (replicate threads 0)) (sym e) (marks-fresh start);
     }
 
--- what a call hands back, told apart
-pub record Given (a : After) (r : Recorded) (t : LinearizabilityTester) : Type 0 where
-  pub comes : r ≡ a .recorded
-  pub leaves : t ≡ a .tester
-
-given-by : (a : After) (r : Recorded) (h : History) (notes : List ℕ) → linearizabilityAfter (step r h) notes ≡ a → Given a r (linearizability h notes)
-given-by a r h notes e = record { comes = ap (λ (x : After). x .recorded) e; leaves = ap (λ (x : After). x .tester) e }
-
-module _ (h : History) (notes flying : List ℕ) (f : ℕ) (S : Standing h notes flying f) where
-  abbrev pub s : LinearizabilityTester
+module _ (h : History) (notes flying : List ℕ) (k : Kind) (S : Standing h notes flying k) where
+  abbrev s : LinearizabilityTester
   s = linearizability h notes
 
   abbrev look : Look
   look = record { ok = true; flying = flying }
 
-  found : Looks (shapedTester s) h look
-  found = record {
+  looked : Looks (shapedTester s) h look
+  looked = record {
     ok = sym (good-shaped linearizabilityModel linearizability-lawful s (S .good));
     places = λ _ t l. S .marks t l;
   }
 
-  let-in : (t a : ℕ) → admitOf true true t (eqb a f) ≡ admitOf (look .ok) (h .valid) t (eqb a f)
-  let-in t a = ap (λ (v : Bool). admitOf true v t (eqb a f)) (sym (S .valid))
-
   abbrev off : Bool → History
-  off v = record { start = h .start; ops = h .ops; count = h .count; done = h .done; valid = v }
+  off b = record { start = h .start; ops = h .ops; count = h .count; done = h .done; valid = b }
 
-  module _ (t : ℕ) (op : Op) (r : Recorded) (e : r ≡ comesBy flying f (h .count) (invoked t op)) where
-    steps : admitting.outcome h r (extended h t op) ≡ invokeOf (shapedTester s) h t op
-    unfolding comesBy
-    steps =
-        admitting.invoked (notesShaped s) h look found t (placeIn flying t) refl (opFamily op) f (S .own) (admitOf true true t (eqb (opFamily op) f))
-        (let-in t (opFamily op)) op refl r e
+  -- what the loader stores for an event: its place, its change, and the history and notes that these leave
 
-    -- an invocation that is taken has a thread and room
-    pub invoke-fits : isTaken r ≡ true → (t < threads) × (h .count < capacity)
-    unfolding comesBy
-    invoke-fits k =
-        admitting.invoked-in (notesShaped s) h look found t (placeIn flying t) refl (opFamily op) f (S .own)
-        (admitOf true true t (eqb (opFamily op) f)) (let-in t (opFamily op)) r e k
+  abbrev place : CEvent → ℕ
+  place v = placeFor v flying (h .count)
 
-    free : isTaken r ≡ true → findFlying t h ≡ Nothing
-    unfolding comesBy
-    free k =
-        admitting.invoked-free (notesShaped s) h look found t (placeIn flying t) refl (opFamily op) f (S .own)
-        (admitOf true true t (eqb (opFamily op) f)) (let-in t (opFamily op)) r e k
+  abbrev change : CEvent → Change
+  change v = changeAt h v (place v)
 
-    pub invoke-taken : isTaken r ≡ true
-        → Given (linearizabilityInvoke s t op) r (linearizability (extended h t op) (notedAt (h .done) t (h .count) notes))
-    unfolding linearizabilityInvoke
-    invoke-taken k =
-        given-by (linearizabilityInvoke s t op) r (extended h t op) (notedAt (h .done) t (h .count) notes)
-        (ap (linearizabilityAfter (step r (extended h t op)))
-        (admitting.noted-in (h .done) t (h .count) notes (invoke-fits k .1)
-        ∙ sym (ap (λ (b : Bool). pick b (notesWith (h .done) t (h .count) notes threads) notes) k))
-        ∙ ap (invokedBy s t) (admitting.outcome-taken h r (extended h t op) k ∙ steps))
+  abbrev next : CEvent → History
+  next v = changed h (place v) (threadOf v) (change v)
 
-    invoke-refused : isTaken r ≡ false → (v : Bool) → v ≡ validAfter true r → Given (linearizabilityInvoke s t op) r (linearizability (off v) notes)
-    unfolding linearizabilityInvoke
-    invoke-refused k v q =
-        given-by (linearizabilityInvoke s t op) r (off v) notes
-        (ap (linearizabilityAfter (step r (off v))) (sym (ap (λ (b : Bool). pick b (notesWith (h .done) t (h .count) notes threads) notes) k))
-        ∙ ap (invokedBy s t) (admitting.outcome-refused h r (extended h t op) v (q ∙ ap (λ (b : Bool). validAfter b r) (sym (S .valid))) k ∙ steps))
+  abbrev noted : CEvent → List ℕ
+  noted v = notedBy (change v .mark) (h .done) (change v .operation .thread) (place v) notes
 
-    pub invoke-stands : isTaken r ≡ true → Standing (extended h t op) (notedAt (h .done) t (h .count) notes) (set flying t (h .count + 1)) f
-    invoke-stands k =
-        let w = invoke-fits k in
-        record {
-          good = subst (Good linearizabilityModel linearizability-lawful) (sym (invoke-taken k .leaves))
-              (good-give linearizabilityModel linearizability-lawful s (S .good) (invoked t op));
-          valid = S .valid;
-          own = S .own;
-          long = length-set flying t _ ∙ S .long;
-          marks = marks-extended h flying (S .long) (S .marks) t (w .0) op (S .good .sized) (w .1) (free k);
-        }
+  -- what the tester's own call hands back, from the step of recording
+  abbrev handed : CEvent → Step → After
+  handed (Invoked t op) p = invokedBy s t p
+  handed (Returned t ret) p = linearizabilityAfter p notes
 
-  module _ (t : ℕ) (ret : Ret) (r : Recorded) (e : r ≡ comesBy flying f (h .count) (returned t ret)) where
-    abbrev i : ℕ
-    i = placeAt (placeIn flying t)
+  called : (v : CEvent) (a : After) → a ≡ handed v (eventOf (shapedTester s) h v)
+      → (a .recorded ≡ give linearizabilityModel s (heard v) .0) × (a .tester ≡ give linearizabilityModel s (heard v) .1)
+  unfolding linearizabilityInvoke linearizabilityReturn
+  called (Invoked t op) a e = (ap (λ (x : After). x .recorded) e, ap (λ (x : After). x .tester) e)
+  called (Returned t ret) a e = (ap (λ (x : After). x .recorded) e, ap (λ (x : After). x .tester) e)
 
-    back : admitting.outcome h r (completed h i t ret) ≡ returnOf (shapedTester s) h t ret
-    unfolding comesBy
-    back =
-        admitting.returned (notesShaped s) h look found t (placeIn flying t) refl (retFamily ret) f (S .own) (admitOf true true t (eqb (retFamily ret) f))
-        (let-in t (retFamily ret)) ret refl r e
+  -- the notes: written for an invocation that is taken, and else kept
 
-    -- a return that is taken has a thread and a place, and one more fits the counter
-    pub return-fits : isTaken r ≡ true → (t < threads) × ((placeAt (placeIn flying t) < capacity) × (getD (h .done) t 0 ≤ capacity))
-    unfolding comesBy
-    return-fits k =
-        admitting.returned-in (notesShaped s) h look found t (placeIn flying t) refl (retFamily ret) f (S .own)
-        (admitOf true true t (eqb (retFamily ret) f)) (let-in t (retFamily ret)) r e k
+  handed-refused : (v : CEvent) (r : Recorded) (g : History) → isTaken r ≡ false → linearizabilityAfter (step r g) notes ≡ handed v (step r g)
+  handed-refused (Invoked t op) r g y =
+      ap (linearizabilityAfter (step r g)) (sym (ap (λ (b : Bool). pick b (notesWith (h .done) t (h .count) notes threads) notes) y))
+  handed-refused (Returned t ret) r g y = refl
 
-    here : isTaken r ≡ true → findFlying t h ≡ At i
-    unfolding comesBy
-    here k =
-        admitting.returned-at (notesShaped s) h look found t (placeIn flying t) refl (retFamily ret) f (S .own)
-        (admitOf true true t (eqb (retFamily ret) f)) (let-in t (retFamily ret)) r e k
+  handed-taken : (v : CEvent) (r : Recorded) (g : History) → isTaken r ≡ true → Fits h v (place v)
+      → linearizabilityAfter (step r g) (noted v) ≡ handed v (step r g)
+  unfolding placeFor threadOf notedBy
+  handed-taken (Invoked t op) r g y w =
+      ap (linearizabilityAfter (step r g))
+      (rw (mark-invoked h t op (h .count) (w .room), thread-invoked h t op (h .count) (w .known), ne-eqb (h .count + 1) 0 (λ z. omega arith))
+      (admitting.noted-in (h .done) t (h .count) notes (w .room))
+      ∙ sym (ap (λ (b : Bool). pick b (notesWith (h .done) t (h .count) notes threads) notes) y))
+  handed-taken (Returned t ret) r g y w =
+      ap (linearizabilityAfter (step r g)) (rw (mark-returned h t ret (placeAt (placeIn flying t))) refl)
 
-    pub return-taken : isTaken r ≡ true
-        → Given (linearizabilityReturn s t ret) r (linearizability (completed h (placeAt (placeIn flying t)) t ret) notes)
-    unfolding linearizabilityReturn
-    return-taken k =
-        given-by (linearizabilityReturn s t ret) r (completed h i t ret) notes
-        (ap (λ (x : Step). linearizabilityAfter x notes) (admitting.outcome-taken h r (completed h i t ret) k ∙ back))
+  marks-kept : (v : CEvent) → Fits h v (place v) → Marks (set flying (threadOf v) (change v .mark)) (next v)
+  unfolding placeFor threadOf
+  marks-kept (Invoked t op) w =
+      subst (λ (m : ℕ). Marks (set flying t m) (next (Invoked t op))) (sym (mark-invoked h t op (h .count) (w .room)))
+      (subst (Marks (set flying t (h .count + 1))) (sym (change-invoked h t op (w .known) (w .room)))
+      (marks-extended h flying (S .long) (S .marks) t (w .known) op (S .good .sized) (w .room) (w .found)))
+  marks-kept (Returned t ret) w =
+      subst (λ (m : ℕ). Marks (set flying t m) (next (Returned t ret))) (sym (mark-returned h t ret (placeAt (placeIn flying t))))
+      (subst (Marks (set flying t 0)) (sym (change-returned h (placeAt (placeIn flying t)) t ret (w .few)))
+      (marks-completed h flying (S .long) (S .marks) t (w .known) ret (S .good .parts .last) (w .found)))
 
-    return-refused : isTaken r ≡ false → (v : Bool) → v ≡ validAfter true r → Given (linearizabilityReturn s t ret) r (linearizability (off v) notes)
-    unfolding linearizabilityReturn
-    return-refused k v q =
-        given-by (linearizabilityReturn s t ret) r (off v) notes
-        (ap (λ (x : Step). linearizabilityAfter x notes)
-        (admitting.outcome-refused h r (completed h i t ret) v (q ∙ ap (λ (b : Bool). validAfter b r) (sym (S .valid))) k ∙ back))
+  module _ (v : CEvent) (r : Recorded) (e : r ≡ comesBy flying k (h .count) v) where
+    came : r ≡ comesTo (look .ok) (h .valid) (kindOf h) flying (h .count) v
+    came =
+        e
+        ∙ ap (λ (b : Bool). comesTo true b k flying (h .count) v) (sym (S .valid))
+        ∙ ap (λ (l : Kind). comesTo true (h .valid) l flying (h .count) v) (S .own)
 
-    pub return-stands : isTaken r ≡ true → Standing (completed h (placeAt (placeIn flying t)) t ret) notes (set flying t 0) f
-    return-stands k = record {
-      good = subst (Good linearizabilityModel linearizability-lawful) (sym (return-taken k .leaves))
-          (good-give linearizabilityModel linearizability-lawful s (S .good) (returned t ret));
+    pub event-fits : isTaken r ≡ true → Fits h v (placeFor v flying (h .count))
+    event-fits y = admitting.event-fits (notesShaped s) h look looked v r came y
+
+    pub event-taken : isTaken r ≡ true
+        → (r ≡ give linearizabilityModel (linearizability h notes) (heard v) .0)
+        × (linearizability (next v) (noted v) ≡ give linearizabilityModel (linearizability h notes) (heard v) .1)
+    event-taken y =
+        called v (linearizabilityAfter (step r (next v)) (noted v))
+        (handed-taken v r (next v) y (event-fits y)
+        ∙ ap (handed v) (admitting.event-taken (notesShaped s) h look looked v r came y (place v) (threadOf v) (change v) refl refl refl))
+
+    -- a refusal leaves all but the validity
+    pub event-refused : isTaken r ≡ false → (b : Bool) → b ≡ validAfter true r
+        → (r ≡ give linearizabilityModel (linearizability h notes) (heard v) .0)
+        × (linearizability (record { start = h .start; ops = h .ops; count = h .count; done = h .done; valid = b }) notes
+        ≡ give linearizabilityModel (linearizability h notes) (heard v) .1)
+    event-refused y b q =
+        called v (linearizabilityAfter (step r (off b)) notes)
+        (handed-refused v r (off b) y
+        ∙ ap (handed v)
+        (admitting.event-refused (notesShaped s) h look looked v r came y b (q ∙ ap (λ (b : Bool). validAfter b r) (sym (S .valid)))))
+
+    pub event-stands : isTaken r ≡ true → Standing (next v) (noted v) (set flying (threadOf v) (change v .mark)) k
+    event-stands y = record {
+      good = subst (Good linearizabilityModel linearizability-lawful) (sym (event-taken y .1))
+          (good-give linearizabilityModel linearizability-lawful s (S .good) (heard v));
       valid = S .valid;
       own = S .own;
-      long = length-set flying t 0 ∙ S .long;
-      marks = marks-completed h flying (S .long) (S .marks) t (return-fits k .0) ret (S .good .parts .last) (here k);
+      long = length-set flying (threadOf v) _ ∙ S .long;
+      marks = marks-kept v (event-fits y);
     }
-
-  -- a refusal leaves all but the validity
-  pub event-refused : (v : Event families) (r : Recorded) → r ≡ comesBy flying f (h .count) v → isTaken r ≡ false → (b : Bool) → b ≡ validAfter true r
-      → (r ≡ give linearizabilityModel (linearizability h notes) v .0)
-      × (linearizability (record { start = h .start; ops = h .ops; count = h .count; done = h .done; valid = b }) notes
-      ≡ give linearizabilityModel (linearizability h notes) v .1)
-  event-refused (invoked t op) r e k b q = let w = invoke-refused t op r e k b q in (w .comes, w .leaves)
-  event-refused (returned t ret) r e k b q = let w = return-refused t ret r e k b q in (w .comes, w .leaves)

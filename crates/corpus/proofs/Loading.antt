@@ -9,20 +9,21 @@ use lib.IntN.{pos}
 use lib.ListN.{length, drop, length-drop, drop-of-length-le}
 use lib.Seq.{drop-drop}
 use Rattle.history.specs.Events.{Event}
-use Rattle.semantics.specs.Families.{families}
-use Rattle.semantics.specs.Calls.{newRegister}
-use Rattle.semantics.specs.declared.Kind.{Kind}
-use Rattle.semantics.specs.declared.Object.{Object}
+use Rattle.families.specs.Families.{families}
+use Rattle.families.specs.Objects.{newRegister}
+use Rattle.families.specs.declared.Kind.{Kind}
+use Rattle.families.specs.declared.Object.{Object}
 use Rattle.recording.specs.declared.consistency_tester.Recorded.{Recorded}
-use Rattle.recording.specs.Events.{numberOf as recordedNumber}
-use Rattle.reading.specs.Models.{Model}
-use Rattle.reading.specs.Inputs.{give}
-use Rattle.corpus.specs.declared.refusal.Refusal.{Refusal}
-use Rattle.corpus.specs.Refusals.{numberOf}
-use Rattle.corpus.specs.Reader.{got, refused}
-use Rattle.corpus.specs.Format.{header, event, Load, load, turn, loadFrom, loadOf}
-use Rattle.corpus.specs.Taking.{first-in}
-use Rattle.corpus.specs.Lengths.{event-field}
+use Rattle.recording.specs.EventSteps.{numberOf as recordedNumber}
+use Rattle.recording_meaning.specs.Models.{Model}
+use Rattle.recording_meaning.specs.Inputs.{give}
+use Rattle.format.specs.declared.refusal.Refusal.{Refusal}
+use Rattle.format.specs.FileRefusals.{numberOf}
+use Rattle.format.specs.Reader.{got, refused}
+use Rattle.format.specs.Format.{header, event}
+use Rattle.corpus.specs.Load.{Load, load, turn, loadFrom, loadOf}
+use Rattle.format.specs.Taking.{first-in}
+use Rattle.format.specs.Lengths.{event-field}
 
 module _ (M : Model) (k : Kind) (s : List ℕ) where
   -- what is left of the file comes to what the whole does

@@ -1,50 +1,27 @@
 -- Files that load, testers that are loaded, and places.
-use Prim.Native.Nat.{ℕ, zero, suc, _+_, _-_, _<_, _≤_}
+use Prim.Native.Nat.{ℕ, zero, suc, _+_, _<_, _≤_}
 use mathlib.Core.Path.{_≡_, refl, sym, ap, _∙_}
 use mathlib.Core.Logic.{_≢_, _↔_}
 use mathlib.Core.List.{List, [], _∷_, _++_}
 use native.Mathlib.Omega.{arith}
 use borrow.Author.Tests.{eq-eqb}
 use lib.ListN.{length, drop, length-drop}
-use lib.Seq.{drop-drop}
 use Rattle.history.specs.Events.{Event, Events}
-use Rattle.semantics.specs.Families.{families}
-use Rattle.semantics.specs.declared.Kind.{Kind}
-use Rattle.semantics.specs.declared.Object.{Object}
-use Rattle.recording.specs.Events.{numberOf as recordedNumber}
-use Rattle.reading.specs.Models.{Model}
-use Rattle.reading.specs.Inputs.{give, feed}
-use Rattle.corpus.specs.declared.refusal.Refusal.{Refusal}
-use Rattle.corpus.specs.declared.refusal.Refusal.the-variants.{TooLong, Unopened, Cut, TooBig, Unknown, StartTooDeep}
-use Rattle.corpus.specs.Refusals.{numberOf}
-use Rattle.corpus.specs.Reader.{Read, got, refused}
-use Rattle.corpus.specs.Format.{header, event, Load, load, loadFrom, loadOf}
-use Rattle.corpus.specs.Taking.{first-in}
-use Rattle.corpus.specs.Lengths.{event-field, header-field}
-use Rattle.corpus.specs.Loaded.{Spells, AllRecorded, Outcome, ended, unread, unrecorded, loaded, not-loaded}
-
--- a refusal has no number 0
-refusal-number : (why : Refusal) → numberOf why ≢ 0
-unfolding numberOf
-refusal-number TooLong e = omega arith
-refusal-number Unopened e = omega arith
-refusal-number Cut e = omega arith
-refusal-number TooBig e = omega arith
-refusal-number Unknown e = omega arith
-refusal-number StartTooDeep e = omega arith
-
--- one event more at the end
-
-pub spells-more : (k : Kind) (l : Events families) (s : List ℕ) (n : ℕ) (v : Event families) (used : ℕ) → Spells k s l n → event k (drop n s) ≡ got v used
-    → Spells k s (l ++ (v ∷ [])) (n + used)
-spells-more k [] s n v used sp e =
-    let b : n + used - used ≡ 0 = omega arith in
-    (used, rw sp at e, omega arith, b)
-spells-more k (w ∷ l) s n v used sp e =
-    let a : n + used - sp .0 ≡ n - sp .0 + used = omega (arith, sp .2) in
-    let c : sp .0 + (n - sp .0) ≡ n = omega (arith, sp .2) in
-    let b : drop (n - sp .0) (drop (sp .0) s) ≡ drop n s = drop-drop (n - sp .0) (sp .0) s ∙ ap (λ (i : ℕ). drop i s) c in
-    (sp .0, sp .1, omega (arith, sp .2), rw a (spells-more k l (drop (sp .0) s) (n - sp .0) v used (sp .3) (rw b e)))
+use Rattle.families.specs.Families.{families}
+use Rattle.families.specs.declared.Kind.{Kind}
+use Rattle.families.specs.declared.Object.{Object}
+use Rattle.recording.specs.EventSteps.{numberOf as recordedNumber}
+use Rattle.recording_meaning.specs.Models.{Model}
+use Rattle.recording_meaning.specs.Inputs.{give, feed}
+use Rattle.format.specs.declared.refusal.Refusal.{Refusal}
+use Rattle.format.specs.FileRefusals.{refusal-number}
+use Rattle.format.specs.Reader.{Read, got, refused}
+use Rattle.format.specs.Format.{header, event}
+use Rattle.corpus.specs.Load.{Load, load, loadFrom, loadOf}
+use Rattle.format.specs.Taking.{first-in}
+use Rattle.format.specs.Lengths.{event-field, header-field}
+use Rattle.format.specs.Spelling.{Spells, spells-more}
+use Rattle.corpus.specs.Loaded.{AllRecorded, Outcome, ended, unread, unrecorded, loaded, not-loaded}
 
 module _ (M : Model) where
   feed-more : (t : M .Tester) (l : Events families) (v : Event families) → feed M t (l ++ (v ∷ [])) ≡ give M (feed M t l) v .1

@@ -11,24 +11,21 @@ use lib.IntN.{pos}
 use lib.ListN.{length, drop, length-drop}
 use lib.Seq.{drop-drop}
 use Rattle.history.specs.Events.{Event, Events}
-use Rattle.semantics.specs.Families.{families}
-use Rattle.semantics.specs.Calls.{newRegister}
-use Rattle.semantics.specs.declared.Kind.{Kind}
-use Rattle.semantics.specs.declared.Object.{Object}
-use Rattle.recording.specs.Events.{numberOf as recordedNumber}
-use Rattle.reading.specs.Models.{Model}
-use Rattle.reading.specs.Inputs.{give, feed}
-use Rattle.corpus.specs.declared.refusal.Refusal.{Refusal}
-use Rattle.corpus.specs.Refusals.{numberOf}
-use Rattle.corpus.specs.Reader.{Read, got, refused}
-use Rattle.corpus.specs.Format.{header, event, Load, load, onward, turn, loadFrom, loadOf}
-use Rattle.corpus.specs.Taking.{first-in}
-use Rattle.corpus.specs.Lengths.{event-field}
-
--- The bytes begin with these events, one after the other, and they take n bytes.
-abbrev pub Spells : Kind → List ℕ → Events families → ℕ → Type 0
-Spells k s [] n = n ≡ 0
-Spells k s (v ∷ l) n = (used : ℕ) × (event k s ≡ got v used) × (used ≤ n) × Spells k (drop used s) l (n - used)
+use Rattle.families.specs.Families.{families}
+use Rattle.families.specs.Objects.{newRegister}
+use Rattle.families.specs.declared.Kind.{Kind}
+use Rattle.families.specs.declared.Object.{Object}
+use Rattle.recording.specs.EventSteps.{numberOf as recordedNumber}
+use Rattle.recording_meaning.specs.Models.{Model}
+use Rattle.recording_meaning.specs.Inputs.{give, feed}
+use Rattle.format.specs.declared.refusal.Refusal.{Refusal}
+use Rattle.format.specs.FileRefusals.{numberOf}
+use Rattle.format.specs.Reader.{Read, got, refused}
+use Rattle.format.specs.Format.{header, event}
+use Rattle.corpus.specs.Load.{Load, load, onward, turn, loadFrom, loadOf}
+use Rattle.format.specs.Taking.{first-in}
+use Rattle.format.specs.Lengths.{event-field}
+use Rattle.format.specs.Spelling.{Spells}
 
 module _ (M : Model) where
   -- Every event draws 0.

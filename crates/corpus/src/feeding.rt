@@ -3,23 +3,33 @@
 use crate::linearizability::Loaded;
 use crate::turns::Turn;
 use crate::turns::turn_at;
+use families::Kind;
+use families::sizes::THREADS;
 use recording::consistency_tester::History;
-use recording::consistency_tester::Operation;
 use recording::linearizability::LinearizabilityTester;
 use recording::linearizability::NOTES;
 use recording::linearizability::note;
-use semantics::Kind;
-use semantics::family::family_of;
-use semantics::placing::Outcome;
-use semantics::sizes::THREADS;
+use recording::step::change_of;
+use recording::step::thread_of;
 ghost use mathlib.Core.Path.{_≡_};
 ghost use Prim.Native.Nat.{_≤_};
 ghost use lib.ListN.{length, drop};
 ghost use Rattle.recording.specs.Testers.{linearizability};
-ghost use Rattle.reading.specs.Models.{linearizabilityModel};
-ghost use Rattle.corpus.specs.Format.{longest, loadFrom};
-ghost use Rattle.corpus.specs.Answers.{asLinearizability};
-ghost use Rattle.corpus.specs.Turns.{Fresh};
+ghost use Rattle.recording_meaning.specs.Models.{linearizabilityModel};
+ghost use Rattle.format.specs.Format.{longest};
+ghost use Rattle.corpus.specs.Load.{loadFrom};
+ghost use Rattle.corpus.specs.LoadAnswers.{asLinearizability};
+ghost use Rattle.corpus.specs.LoaderTurns.{Fresh, notedBy};
+
+// Writes the notes of an operation that comes into flight; a return, which leaves no mark, keeps what stands.
+fn note_change(notes: &mut [u8; NOTES], done: &[u8; THREADS], at: usize, own: u8, mark: u8)
+    ensures { λ r. ⌜ now (notes .exit) ≡ notedBy mark (now (done .entry)) own at (now (notes .entry)) ⌝ }
+{
+    if mark == 0 {
+        return;
+    }
+    note(notes, done, at, own);
+}
 
 // The events from a place to the end, recorded by a fresh tester.
 pub(crate) fn feed(
@@ -33,11 +43,10 @@ pub(crate) fn feed(
     ensures { λ r. ⌜ r ≡ asLinearizability (loadFrom linearizabilityModel (length (now (file .entry))) kind (drop first (now (file .entry))) first (linearizability history notes)) ⌝ }
 {
     let mut flying = [0u8; THREADS];
-    let family = family_of(kind);
     let mut at = first;
     while at < file.len() {
         let count = history.count;
-        let turn = turn_at(file, at, kind, &flying, family, count);
+        let turn = turn_at(file, at, kind, &flying, count);
         match turn {
             Turn::Stopped { number, valid } => {
                 history.valid = valid;
@@ -49,41 +58,17 @@ pub(crate) fn feed(
                     tester,
                 };
             }
-            Turn::Invoked { thread, op, used } => {
-                let own = thread as u8;
-                let after = count + 1;
-                let o = Operation {
-                    thread: own,
-                    op,
-                    outcome: Outcome::Pending,
-                };
-                history.ops[count] = o;
-                history.count = after;
-                let done = history.done;
-                note(&mut notes, &done, count, own);
-                let t = thread as usize;
-                flying[t] = after as u8;
-                at += used;
-            }
-            Turn::Returned {
-                thread,
-                place,
-                ret,
-                used,
-            } => {
+            Turn::Taken { event, place, used } => {
+                let t = thread_of(event) as usize;
                 let o = history.ops[place];
-                let op = o.op;
-                let o = Operation {
-                    thread: o.thread,
-                    op,
-                    outcome: Outcome::Returned(ret),
-                };
-                history.ops[place] = o;
-                let t = thread as usize;
                 let done = history.done;
-                let d = done[t];
-                history.done[t] = d + 1;
-                flying[t] = 0;
+                let change = change_of(event, o, place, count, done[t]);
+                let operation = change.operation;
+                history.ops[place] = operation;
+                history.count = change.count;
+                history.done[t] = change.done;
+                note_change(&mut notes, &done, place, operation.thread, change.mark);
+                flying[t] = change.mark;
                 at += used;
             }
         }

@@ -1,13 +1,13 @@
 // A file loaded into a tester of linearizability.
 use crate::feeding::feed;
-use crate::header::Begins;
-use crate::header::read_header;
-use crate::refusal;
+use format::header::Begins;
+use format::header::read_header;
+use format::refusal;
 use recording::linearizability::LinearizabilityTester;
 ghost use mathlib.Core.Path.{_≡_};
-ghost use Rattle.reading.specs.Models.{linearizabilityModel};
-ghost use Rattle.corpus.specs.Format.{loadOf};
-ghost use Rattle.corpus.specs.Answers.{asLinearizability};
+ghost use Rattle.recording_meaning.specs.Models.{linearizabilityModel};
+ghost use Rattle.corpus.specs.Load.{loadOf};
+ghost use Rattle.corpus.specs.LoadAnswers.{asLinearizability};
 
 // The number of the refusal, the place of the event that it befell, and the tester as it stands; number
 // and place are 0 where all is loaded.

@@ -3,9 +3,9 @@
 use crate::linearizability;
 use recording::sequential_consistency::SequentialConsistencyTester;
 ghost use mathlib.Core.Path.{_≡_};
-ghost use Rattle.reading.specs.Models.{sequentialModel};
-ghost use Rattle.corpus.specs.Format.{loadOf};
-ghost use Rattle.corpus.specs.Answers.{asSequential};
+ghost use Rattle.recording_meaning.specs.Models.{sequentialModel};
+ghost use Rattle.corpus.specs.Load.{loadOf};
+ghost use Rattle.corpus.specs.LoadAnswers.{asSequential};
 
 // The number of the refusal, the place of the event that it befell, and the tester as it stands; number
 // and place are 0 where all is loaded.

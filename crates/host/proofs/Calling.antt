@@ -6,7 +6,7 @@ use native.Mathlib.Omega.{arith}
 use lib.ListN.{drop}
 use Rattle.host.specs.declared.report.Report.{Report}
 use Rattle.host.specs.Call.{reportOf, bytesOf, answerSize, modelOf, callNumber, callAnswer}
-use Rattle.host.specs.Meant.{calls}
+use Rattle.host.specs.CallMeant.{calls}
 
 module _ (file answer : List ℕ) (model budget : ℕ) where
   pub unwritten : (n : ℕ) → callNumber model answer ≡ suc n → (suc n ≡ callNumber model answer) × (answer ≡ callAnswer file model budget answer)

@@ -3,13 +3,13 @@ use Prim.Native.Nat.{ℕ, zero, suc, _+_, _/_, _%_}
 use mathlib.Core.List.{List, [], _∷_, _++_, map}
 use lib.Dec.{ltb, eqb}
 use lib.ListN.{length, drop, replicate}
-use Rattle.semantics.specs.Sizes.{capacity}
-use Rattle.semantics.specs.Value.{pick}
-use Rattle.reading.specs.Models.{Model, sequentialModel, linearizabilityModel}
+use Rattle.families.specs.Sizes.{capacity}
+use Rattle.families.specs.Value.{pick}
+use Rattle.recording_meaning.specs.Models.{Model, sequentialModel, linearizabilityModel}
 use Rattle.judging.specs.declared.answer.Answer.{Answer}
 use Rattle.judging.specs.declared.answer.Placed.{Placed}
 use Rattle.judging.specs.Answers.{numberOf, nobodyThere, judgeOf}
-use Rattle.corpus.specs.Format.{Load, loadOf}
+use Rattle.corpus.specs.Load.{Load, loadOf}
 use Rattle.host.specs.declared.report.Report.{Report}
 
 -- what is reported

@@ -1,6 +1,6 @@
 pub mod Call
 pub mod Ordered
 pub mod Loads
-pub mod Meaning
-pub mod Meant
+pub mod CallMeaning
+pub mod CallMeant
 pub mod Trace

@@ -8,33 +8,26 @@ use native.Mathlib.Omega.{arith}
 use lib.ListN.{drop}
 use Rattle.history.specs.Lists.{not-both}
 use Rattle.history.specs.Events.{Events}
-use Rattle.semantics.specs.Families.{families}
-use Rattle.semantics.specs.declared.Object.{Object}
+use Rattle.families.specs.Families.{families}
+use Rattle.families.specs.declared.Object.{Object}
 use Rattle.recording.specs.declared.consistency_tester.Recorded.{Recorded}
-use Rattle.recording.specs.declared.consistency_tester.Recorded.the-variants.{
-  Taken,
-  AlreadyInvalid,
-  NoSuchThread,
-  OtherFamily,
-  InFlight,
-  NothingInFlight,
-  Full,
-  OutOfShape,
-}
-use Rattle.recording.specs.Events.{numberOf as recordedNumber}
-use Rattle.reading.specs.Models.{Model}
-use Rattle.reading.specs.Lawful.{Lawful}
-use Rattle.reading.specs.Turns.{good-shaped}
-use Rattle.reading.specs.Reaching.{good-new}
-use Rattle.reading.specs.Inputs.{breaks, broken, give, feed, drawn}
-use Rattle.reading.specs.Feeding.{step-of, good-feed, invalid-exactly}
+use Rattle.recording.specs.declared.consistency_tester.Recorded.the-variants.{Taken, Refused}
+use Rattle.recording.specs.Drawn.{zero-taken, breaks-number}
+use Rattle.recording.specs.EventSteps.{numberOf as recordedNumber}
+use Rattle.recording_meaning.specs.Models.{Model}
+use Rattle.recording_meaning.specs.Lawful.{Lawful}
+use Rattle.recording_meaning.specs.EventTurns.{good-shaped}
+use Rattle.recording_meaning.specs.Reaching.{good-new}
+use Rattle.recording_meaning.specs.Inputs.{broke, broken, give, feed, drawn}
+use Rattle.recording_meaning.specs.TesterFeeding.{step-of, good-feed, invalid-exactly}
 use Rattle.judging.specs.declared.answer.Verdict.the-variants.{Invalid}
 use Rattle.judging.specs.Answers.{judgeOf}
-use Rattle.corpus.specs.declared.refusal.Refusal.{Refusal}
-use Rattle.corpus.specs.declared.refusal.Refusal.the-variants.{TooLong, Unopened, Cut, TooBig, Unknown, StartTooDeep}
-use Rattle.corpus.specs.Refusals.{numberOf}
-use Rattle.corpus.specs.Reader.{Read, got, refused}
-use Rattle.corpus.specs.Format.{header, Load, loadOf}
+use Rattle.format.specs.declared.refusal.Refusal.{Refusal}
+use Rattle.format.specs.declared.refusal.Refusal.the-variants.{TooLong, Unopened, Cut, TooBig, Unknown, StartTooDeep}
+use Rattle.format.specs.FileRefusals.{numberOf}
+use Rattle.format.specs.Reader.{Read, got, refused}
+use Rattle.format.specs.Format.{header}
+use Rattle.corpus.specs.Load.{Load, loadOf}
 use Rattle.corpus.specs.Loaded.{AllRecorded, Outcome, ended, unread, unrecorded, loaded, not-loaded}
 use Rattle.corpus.specs.Files.{number-zero, whole-loads}
 use Rattle.host.specs.Ordered.{ordered, sound-verdict, invalid-verdict}
@@ -53,28 +46,14 @@ file-refusal TooBig = ⊎-elim (λ e. omega arith) (λ e. omega arith)
 file-refusal Unknown = ⊎-elim (λ e. omega arith) (λ e. omega arith)
 file-refusal StartTooDeep = ⊎-elim (λ e. omega arith) (λ e. omega arith)
 
--- and a refusal of recording breaks the history if it is
-recorded-breaks : (r : Recorded) → Breaking (recordedNumber r) → breaks r ≡ true
+-- and a refusal of recording breaks the history if it is one
+recorded-breaks : (r : Recorded) → Breaking (recordedNumber r) → broke r ≡ true
 unfolding recordedNumber
 recorded-breaks Taken = ⊎-elim (λ e. absurd (omega arith)) (λ e. absurd (omega arith))
-recorded-breaks AlreadyInvalid = ⊎-elim (λ e. absurd (omega arith)) (λ e. absurd (omega arith))
-recorded-breaks NoSuchThread = ⊎-elim (λ e. absurd (omega arith)) (λ e. absurd (omega arith))
-recorded-breaks OtherFamily = ⊎-elim (λ e. absurd (omega arith)) (λ e. absurd (omega arith))
-recorded-breaks InFlight = λ h. refl
-recorded-breaks NothingInFlight = λ h. refl
-recorded-breaks Full = ⊎-elim (λ e. absurd (omega arith)) (λ e. absurd (omega arith))
-recorded-breaks OutOfShape = ⊎-elim (λ e. absurd (omega arith)) (λ e. absurd (omega arith))
+recorded-breaks (Refused r) = breaks-number r .0
 
-zero-keeps : (r : Recorded) → recordedNumber r ≡ 0 → breaks r ≡ false
-unfolding recordedNumber
-zero-keeps Taken e = refl
-zero-keeps AlreadyInvalid e = refl
-zero-keeps NoSuchThread e = refl
-zero-keeps OtherFamily e = refl
-zero-keeps InFlight e = absurd (omega arith)
-zero-keeps NothingInFlight e = absurd (omega arith)
-zero-keeps Full e = refl
-zero-keeps OutOfShape e = refl
+zero-keeps : (r : Recorded) → recordedNumber r ≡ 0 → broke r ≡ false
+zero-keeps r e = ap broke (zero-taken r e)
 
 off : (b : Bool) → b && false ≡ false
 off true = refl
@@ -117,7 +96,7 @@ module _ (M : Model) where
         by-outcome o n (unrecorded l m sp all i v used q d r) =
             let s = feed M (M .new o) l in
             let t = give M s v in
-            let k : breaks (t .0) ≡ true = recorded-breaks (t .0) (subst Breaking (ap (λ (x : Load M). x .number) r) h) in
+            let k : broke (t .0) ≡ true = recorded-breaks (t .0) (subst Breaking (ap (λ (x : Load M). x .number) r) h) in
             let w : M .history (t .1) .valid ≡ false =
             step-of M L s (good-feed M L l (M .new o) (good-new M L o)) v .valid ∙ ap (λ (x : Bool). M .history s .valid && not x) k ∙ off (M .history s .valid) in
             let e : loadOf M file .tester ≡ t .1 = ap (λ (x : Load M). x .tester) r in

@@ -10,9 +10,9 @@ use lib.ListN.{length, drop, replicate, length-append}
 use Rattle.history.specs.Lists.{not-both}
 use Rattle.theory.specs.Budget.{Verdict as Found, order, no-order, undecided, Judged}
 use Rattle.theory.specs.Undoing.{shown-by}
-use Rattle.semantics.specs.Sizes.{capacity}
-use Rattle.semantics.specs.Value.{pick}
-use Rattle.reading.specs.Models.{Model}
+use Rattle.families.specs.Sizes.{capacity}
+use Rattle.families.specs.Value.{pick}
+use Rattle.recording_meaning.specs.Models.{Model}
 use Rattle.judging.specs.declared.answer.Answer.{Answer}
 use Rattle.judging.specs.declared.answer.Placed.{Placed}
 use Rattle.judging.specs.declared.answer.Verdict.{Verdict}

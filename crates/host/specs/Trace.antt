@@ -4,13 +4,15 @@ use mathlib.Core.Path.{_≡_, refl, ap, _∙_}
 use mathlib.Core.List.{List, [], _∷_, _++_}
 use borrow.Author.Tests.{le-leb}
 use lib.ListN.{length, drop, replicate}
-use Rattle.semantics.specs.Value.{eqZ}
-use Rattle.semantics.specs.Register.{registerAnswer, registerAfter, sameRegisterRet}
-use Rattle.semantics.specs.Families.{answers, after, sameRet}
-use Rattle.semantics.specs.Family.{familyOf, opFamily, retFamily}
-use Rattle.semantics.specs.Refusals.{depthOf}
-use Rattle.semantics.specs.Calls.{newRegister}
-use Rattle.semantics.specs.Meaning.{stateOf}
+use Rattle.families.specs.Value.{zigzag, eqZ}
+use Rattle.families.specs.Register.{registerAnswer, registerAfter, registerRetCoded}
+use Rattle.families.specs.Families.{answers, right, after, sameRet}
+use Rattle.families.specs.Codes.{retCoded}
+use Rattle.families.specs.Coded.{sameCoded}
+use Rattle.families.specs.Family.{familyOf, opFamily, retFamily, familyNumber}
+use Rattle.families.specs.Refusals.{familyCheck, opBelongs, retBelongs, isClear, startCheck, shapeCheck, sizeCheck, inOrder}
+use Rattle.families.specs.Objects.{newRegister}
+use Rattle.families.specs.States.{stateOf}
 use Rattle.recording.specs.Record.{fresh, isPending, flyingBy, flyingFrom, findFlying}
 use Rattle.recording.specs.Shape.{
   doneBy,
@@ -28,7 +30,7 @@ use Rattle.recording.specs.Shape.{
   notesFitFrom,
   notesShaped,
 }
-use Rattle.recording.specs.Events.{isTaken, madeOf, begunOf, invokeOf, returnOf}
+use Rattle.recording.specs.EventSteps.{isTaken, begunOf, invokeOf, returnOf}
 use Rattle.recording.specs.Testers.{
   newSequential,
   sequentialInvoke,
@@ -38,30 +40,31 @@ use Rattle.recording.specs.Testers.{
   linearizabilityInvoke,
   linearizabilityReturn,
 }
-use Rattle.reading.specs.Reading.{rowsOf, notesOf}
-use Rattle.reading.specs.Models.{sequentialModel, linearizabilityModel}
+use Rattle.recording_meaning.specs.Reading.{rowsOf, notesOf}
+use Rattle.recording_meaning.specs.Models.{sequentialModel, linearizabilityModel}
 use Rattle.judging.specs.Answers.{numberOf, toldOf, judgedOf, judgeOf}
-use Rattle.corpus.specs.Format.{Load}
-use Rattle.corpus.specs.Traces.{trace-14, sequential-loads, linearizability-loads}
+use Rattle.corpus.specs.Load.{Load}
+use Rattle.format.specs.TraceFiles.{trace-14}
+use Rattle.corpus.specs.TraceLoads.{sequential-loads, linearizability-loads}
 use Rattle.host.specs.Call.{threadsOf, judgedReport, reportBy, reportOf, headOf, bytesOf, answerSize, modelOf, callNumber, callAnswer}
-use Rattle.host.specs.Meant.{calls}
+use Rattle.host.specs.CallMeant.{calls}
 
 -- 00 00 02, 02 and seven 00, four 00, 00 01, then 62 times FF.
 abbrev pub trace-bytes : List ℕ
 trace-bytes = 0x00 ∷ 0x00 ∷ 0x02 ∷ 0x02 ∷ replicate 7 0x00 ++ replicate 4 0x00 ++ (0x00 ∷ 0x01 ∷ []) ++ replicate 62 0xFF
 
 sequential-bytes : (budget : ℕ) → 2 ≤ budget → bytesOf (reportOf sequentialModel trace-14 budget) ≡ trace-bytes
-unfolding eqZ registerAnswer registerAfter sameRegisterRet answers after sameRet familyOf opFamily retFamily depthOf newRegister stateOf
+unfolding zigzag eqZ sameCoded registerAnswer registerAfter registerRetCoded retCoded answers right after sameRet familyOf opFamily retFamily familyNumber familyCheck opBelongs retBelongs isClear startCheck shapeCheck sizeCheck inOrder newRegister stateOf
     fresh isPending flyingBy flyingFrom findFlying doneBy countDone allBelow outcomeFits operationFits operationsFit noneOf flyingLast
-    countsRight shapeOf isTaken madeOf begunOf invokeOf returnOf newSequential sequentialInvoke sequentialReturn rowsOf numberOf toldOf
+    countsRight shapeOf isTaken begunOf invokeOf returnOf newSequential sequentialInvoke sequentialReturn rowsOf numberOf toldOf
     judgedOf judgeOf threadsOf judgedReport reportOf headOf bytesOf
 sequential-bytes budget h =
     ap (λ (l : Load sequentialModel). bytesOf (reportBy sequentialModel l budget)) sequential-loads ∙ rw (le-leb 2 budget h) refl
 
 linearizability-bytes : (budget : ℕ) → 2 ≤ budget → bytesOf (reportOf linearizabilityModel trace-14 budget) ≡ trace-bytes
-unfolding eqZ registerAnswer registerAfter sameRegisterRet answers after sameRet familyOf opFamily retFamily depthOf newRegister stateOf
+unfolding zigzag eqZ sameCoded registerAnswer registerAfter registerRetCoded retCoded answers right after sameRet familyOf opFamily retFamily familyNumber familyCheck opBelongs retBelongs isClear startCheck shapeCheck sizeCheck inOrder newRegister stateOf
     fresh isPending flyingBy flyingFrom findFlying doneBy countDone notable allBelow outcomeFits operationFits operationsFit noneOf
-    flyingLast countsRight shapeOf notesFit notesFitFrom notesShaped isTaken madeOf begunOf invokeOf returnOf newLinearizability notesWith
+    flyingLast countsRight shapeOf notesFit notesFitFrom notesShaped isTaken begunOf invokeOf returnOf newLinearizability notesWith
     linearizabilityInvoke linearizabilityReturn rowsOf notesOf numberOf toldOf judgedOf judgeOf threadsOf judgedReport reportOf headOf
     bytesOf
 linearizability-bytes budget h =

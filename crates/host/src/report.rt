@@ -1,15 +1,15 @@
 // What an answer reports of a file.
 use corpus::linearizability;
 use corpus::sequential_consistency;
+use families::sizes::OPERATIONS;
 use judging::answer;
 use judging::answer::Answer;
 use judging::answer::NOBODY;
 use judging::answer::Placed;
-use semantics::sizes::OPERATIONS;
 ghost use mathlib.Core.Path.{_≡_};
 ghost use Prim.Native.Nat.{_≤_};
 ghost use lib.ListN.{length};
-ghost use Rattle.reading.specs.Models.{sequentialModel, linearizabilityModel};
+ghost use Rattle.recording_meaning.specs.Models.{sequentialModel, linearizabilityModel};
 ghost use Rattle.host.specs.Call.{refusedVerdict, refusedReport, threadsOf, judgedReport, reportOf};
 
 // The fields of an answer, in the order of its bytes.

@@ -7,10 +7,10 @@ use lib.ListN.{length, take, replicate, length-append, length-replicate}
 use native.Mathlib.Omega.{arith}
 use Rattle.theory.specs.Budget.{order, Judged}
 use Rattle.history.specs.Lists.{not-both}
-use Rattle.semantics.specs.Value.{pick}
-use Rattle.semantics.specs.Sizes.{capacity}
+use Rattle.families.specs.Value.{pick}
+use Rattle.families.specs.Sizes.{capacity}
 use Rattle.recording.specs.declared.consistency_tester.History.{History}
-use Rattle.reading.specs.Models.{Model}
+use Rattle.recording_meaning.specs.Models.{Model}
 use Rattle.judging.specs.declared.answer.Answer.{Answer}
 use Rattle.judging.specs.declared.answer.Placed.{Placed}
 use Rattle.judging.specs.declared.answer.Verdict.{Verdict}
@@ -18,7 +18,7 @@ use Rattle.judging.specs.declared.answer.Verdict.the-variants.{Order, No
 use Rattle.judging.specs.declared.search.Stopped.{Stopped}
 use Rattle.judging.specs.Answers.{isConsistent, nobodyThere, withOrder, withoutOrder, Placement, toldOf, judgedOf, judgeOf}
 use Rattle.judging.specs.Playing.{origin, played}
-use Rattle.judging.specs.Steps.{FoundBy, Stopping, Stops}
+use Rattle.judging.specs.SearchStops.{FoundBy, Stopping, Stops}
 use Rattle.judging.proofs.Replaying.{orderOf}
 
 module _ (j : Judged Placement) (h : History) (path : List ℕ) where

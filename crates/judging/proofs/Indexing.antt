@@ -8,7 +8,7 @@ use lib.Seq.{drop-cons, getD-set-same, getD-set-other, getD-at}
 use native.Mathlib.Numerals.{add-one}
 use native.Mathlib.Omega.{arith}
 use Rattle.history.specs.Lists.{own-or-other, getD-same}
-use Rattle.semantics.specs.Sizes.{threads, capacity}
+use Rattle.families.specs.Sizes.{threads, capacity}
 use Rattle.recording.specs.declared.consistency_tester.History.{History}
 use Rattle.recording.specs.Record.{operationAt}
 use Rattle.recording.specs.Shape.{InShape}

@@ -8,10 +8,10 @@ use native.Mathlib.Omega.{arith}
 use Rattle.history.specs.Space.{met}
 use Rattle.history.specs.Lists.{not-true}
 use Rattle.history.specs.Progress.{met-of, of-met}
-use Rattle.semantics.specs.Sizes.{threads}
+use Rattle.families.specs.Sizes.{threads}
 use Rattle.recording.specs.Shape.{noteAt}
-use Rattle.reading.specs.Reading.{notesOf}
-use Rattle.reading.specs.Noting.{note-in}
+use Rattle.recording_meaning.specs.Reading.{notesOf}
+use Rattle.recording_meaning.specs.Noting.{note-in}
 
 module _ (notes : List ℕ) (i : ℕ) (progress : List ℕ) (long : length progress ≡ threads) where
   pub notes-met : ((u : ℕ) → u < threads → noteAt notes i u ≤ getD progress u 0) → met (notesOf notes i) progress ≡ true

@@ -7,11 +7,11 @@ use lib.Seq.{take-suc, take-take, getD-take, length-take-le, append-snoc, set-at
 use lib.IntN.{ℤ}
 use native.Mathlib.Numerals.{add-one}
 use native.Mathlib.Omega.{arith}
-use Rattle.semantics.specs.Sizes.{threads, capacity}
-use Rattle.semantics.specs.Placing.{heldOf, givenOf, leavesOf, actedOf}
-use Rattle.semantics.specs.declared.Ret.{Ret}
-use Rattle.semantics.specs.declared.placing.Held.{Held}
-use Rattle.semantics.specs.declared.placing.Acted.{Acted}
+use Rattle.families.specs.Sizes.{threads, capacity}
+use Rattle.families.specs.Placing.{heldOf, givenOf, leavesOf, actedOf}
+use Rattle.families.specs.declared.Ret.{Ret}
+use Rattle.families.specs.declared.placing.Held.{Held}
+use Rattle.families.specs.declared.placing.Acted.{Acted}
 use Rattle.recording.specs.declared.consistency_tester.Operation.{Operation}
 use Rattle.recording.specs.declared.consistency_tester.History.{History}
 use Rattle.recording.specs.Record.{operationAt}

@@ -8,16 +8,15 @@ use Rattle.theory.specs.Space.{Edge}
 use Rattle.theory.specs.Undoing.{shown-by}
 use Rattle.history.specs.Space.{Node}
 use Rattle.history.specs.Budgets.{judged}
-use Rattle.semantics.specs.Sizes.{capacity}
-use Rattle.semantics.specs.Value.{pick}
-use Rattle.semantics.specs.Families.{families}
-use Rattle.semantics.specs.Meaning.{stateOf}
-use Rattle.semantics.specs.declared.Ret.{Ret}
-use Rattle.semantics.specs.declared.Ret.the-variants.{Register}
-use Rattle.semantics.specs.declared.register.RegisterRet.the-variants.{WriteOk}
+use Rattle.families.specs.Sizes.{capacity}
+use Rattle.families.specs.Value.{pick}
+use Rattle.families.specs.Families.{families}
+use Rattle.families.specs.States.{stateOf}
+use Rattle.families.specs.Objects.{noRet}
+use Rattle.families.specs.declared.Ret.{Ret}
 use Rattle.recording.specs.declared.consistency_tester.History.{History}
-use Rattle.reading.specs.Reading.{rowsOf}
-use Rattle.reading.specs.Models.{Model}
+use Rattle.recording_meaning.specs.Reading.{rowsOf}
+use Rattle.recording_meaning.specs.Models.{Model}
 use Rattle.judging.specs.declared.answer.Answer.{Answer}
 use Rattle.judging.specs.declared.answer.Placed.{Placed}
 use Rattle.judging.specs.declared.answer.Verdict.{Verdict}
@@ -43,7 +42,7 @@ placed t r = record { thread = t; ret = r }
 
 -- What stands in a place behind an order.
 abbrev pub nobodyThere : Placed
-nobodyThere = placed 255 (Register WriteOk)
+nobodyThere = placed 255 noRet
 
 -- An order in the places that an answer has.
 abbrev pub padded : List Placed → List Placed
@@ -55,7 +54,7 @@ withOrder n l = record { verdict = Order; attempts = n; length = length l; order
 unfoldable pub withoutOrder : Verdict → ℕ → Answer
 withoutOrder v n = record { verdict = v; attempts = n; length = 0; order = replicate capacity nobodyThere }
 
--- A step of the walk over rows of the three families.
+-- A step of the walk over rows of the families.
 abbrev pub Placement : Type 0
 Placement = Edge Ret (Node families)
 

@@ -12,7 +12,7 @@ use Rattle.judging.specs.declared.search.Level.{Level}
 use Rattle.judging.specs.Answers.{placed}
 use Rattle.judging.specs.Playing.{Situation, origin, givenTo, played, reached, Playable}
 use Rattle.judging.specs.PlayingLaws.{played-more, reached-more, playable-more}
-use Rattle.judging.specs.Machine.{lvOf, undone, Can, S, U}
+use Rattle.judging.specs.SearchMachine.{lvOf, undone, Can, S, U}
 
 module _ (needs : ℕ → List ℕ) (h : History) (path : List ℕ) (levels : List Level) where
   -- The first d threads of the path lead to the state s, and they show what the d levels above s do.

@@ -4,11 +4,11 @@ pub mod Places
 pub mod PlacesLaws
 pub mod Playing
 pub mod PlayingLaws
-pub mod Steps
+pub mod SearchStops
 pub mod Rowing
 pub mod Giving
-pub mod Machine
+pub mod SearchMachine
 pub mod Leading
-pub mod Running
-pub mod Turns
+pub mod SearchRunning
+pub mod SearchTurns
 pub mod Unnoted

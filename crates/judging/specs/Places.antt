@@ -4,8 +4,8 @@ use mathlib.Core.Path.{_≡_}
 use mathlib.Core.List.{List, [], _∷_, _++_}
 use lib.ListN.{length, getD}
 use lib.Dec.{eqb}
-use Rattle.semantics.specs.Value.{pick}
-use Rattle.semantics.specs.Sizes.{threads, capacity}
+use Rattle.families.specs.Value.{pick}
+use Rattle.families.specs.Sizes.{threads, capacity}
 use Rattle.recording.specs.declared.consistency_tester.History.{History}
 use Rattle.recording.specs.Record.{operationAt}
 

@@ -9,7 +9,7 @@ use lib.Seq.{getD-at}
 use lib.Dec.{ltb, eqb}
 use borrow.Author.Tests.{ltb-true, ltb-false, eq-eqb, ne-eqb}
 use native.Mathlib.Omega.{arith}
-use Rattle.semantics.specs.Value.{pick}
+use Rattle.families.specs.Value.{pick}
 use Rattle.recording.specs.declared.consistency_tester.History.{History}
 use Rattle.recording.specs.Record.{operationAt}
 use Rattle.judging.specs.Places.{placesIn}

@@ -3,9 +3,9 @@ use Prim.Native.Nat.{ℕ, _+_, _<_}
 use mathlib.Core.List.{List, [], _∷_}
 use lib.ListN.{length, getD, set, replicate}
 use lib.IntN.{ℤ}
-use Rattle.semantics.specs.Sizes.{threads}
-use Rattle.semantics.specs.Placing.{heldOf, givenOf, heldAfter, leavesOf}
-use Rattle.semantics.specs.declared.placing.Held.{Held}
+use Rattle.families.specs.Sizes.{threads}
+use Rattle.families.specs.Placing.{heldOf, givenOf, heldAfter, leavesOf}
+use Rattle.families.specs.declared.placing.Held.{Held}
 use Rattle.recording.specs.declared.consistency_tester.Operation.{Operation}
 use Rattle.recording.specs.declared.consistency_tester.History.{History}
 use Rattle.recording.specs.Record.{operationAt}

@@ -15,17 +15,17 @@ use Rattle.history.specs.Recorder.{completed}
 use Rattle.history.specs.Space.{next, more, unplaced}
 use Rattle.history.specs.Left.{left}
 use Rattle.history.specs.Progress.{next-row}
-use Rattle.semantics.specs.Value.{pick}
-use Rattle.semantics.specs.Sizes.{threads, capacity}
-use Rattle.semantics.specs.Families.{families}
+use Rattle.families.specs.Value.{pick}
+use Rattle.families.specs.Sizes.{threads, capacity}
+use Rattle.families.specs.Families.{families}
 use Rattle.recording.specs.declared.consistency_tester.Operation.{Operation}
 use Rattle.recording.specs.declared.consistency_tester.History.{History}
 use Rattle.recording.specs.Record.{blankOperation, operationAt}
 use Rattle.recording.specs.Shape.{shapeOf}
-use Rattle.reading.specs.Reading.{Sized, entryOf, entries, of-thread, rowsOf}
-use Rattle.reading.specs.Rowing.{rows-many, row-is}
-use Rattle.reading.specs.Shaping.{rows-done, rows-count}
-use Rattle.reading.specs.Parts.{parts-of}
+use Rattle.recording_meaning.specs.Reading.{Sized, entryOf, entries, of-thread, rowsOf}
+use Rattle.recording_meaning.specs.Rowing.{rows-many, row-is}
+use Rattle.recording_meaning.specs.Shaping.{rows-done, rows-count}
+use Rattle.recording_meaning.specs.Parts.{parts-of}
 use Rattle.judging.specs.Places.{placesIn, placesOf, sumOf}
 
 -- one more is placed, as the code counts

@@ -1,7 +1,7 @@
 // What a judge answers.
-use semantics::Ret;
-use semantics::register::RegisterRet;
-use semantics::sizes::OPERATIONS;
+use families::Ret;
+use families::no_ret;
+use families::sizes::OPERATIONS;
 ghost use mathlib.Core.Path.{_≡_};
 ghost use Rattle.judging.specs.Answers.{numberOf, isConsistent, nobodyThere, withoutOrder};
 
@@ -48,8 +48,7 @@ pub const NOBODY: u8 = 255;
 pub(crate) fn nobody() -> Placed
     ensures { λ r. ⌜ r ≡ nobodyThere ⌝ }
 {
-    let ok = RegisterRet::WriteOk;
-    let ret = Ret::Register(ok);
+    let ret = no_ret();
     Placed {
         thread: NOBODY,
         ret,

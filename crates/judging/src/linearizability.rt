@@ -5,7 +5,7 @@ use crate::answer::without_order;
 use crate::search::search;
 use recording::linearizability::LinearizabilityTester;
 ghost use mathlib.Core.Path.{_≡_};
-ghost use Rattle.reading.specs.Models.{linearizabilityModel};
+ghost use Rattle.recording_meaning.specs.Models.{linearizabilityModel};
 ghost use Rattle.judging.specs.Answers.{judgeOf};
 
 // Whether the history of the tester is linearizable, within a budget of attempts.

@@ -6,7 +6,7 @@ use crate::search::search;
 use recording::linearizability::NOTES;
 use recording::sequential_consistency::SequentialConsistencyTester;
 ghost use mathlib.Core.Path.{_≡_};
-ghost use Rattle.reading.specs.Models.{sequentialModel};
+ghost use Rattle.recording_meaning.specs.Models.{sequentialModel};
 ghost use Rattle.judging.specs.Answers.{judgeOf};
 
 // Whether the history of the tester is sequentially consistent, within a budget of attempts. Without notes

@@ -4,47 +4,47 @@ use mathlib.Core.Path.{_≡_, refl, sym, ap, _∙_}
 use mathlib.Core.Bool.{Bool, true, false}
 use mathlib.Core.List.{List, [], _∷_}
 use native.Mathlib.Omega.{arith}
-use lib.Dec.{ltb, eqb, leb}
+use lib.Dec.{ltb, leb}
 use lib.ListN.{length, replicate, drop, length-set, length-replicate}
 use borrow.Author.Tests.{le-leb, leb-true, ltb-true}
-use Rattle.semantics.specs.Value.{pick}
-use Rattle.semantics.specs.Sizes.{threads, capacity, startRoom}
-use Rattle.semantics.specs.Family.{opFamily}
-use Rattle.semantics.specs.Refusals.{depthOf}
-use Rattle.semantics.specs.declared.placing.Outcome.{Outcome}
-use Rattle.semantics.specs.declared.placing.Outcome.the-variants.{Pending, Returned}
+use Rattle.families.specs.Value.{pick}
+use Rattle.families.specs.Sizes.{threads, capacity}
+use Rattle.families.specs.Refusals.{isClear, opBelongs, startCheck}
+use Rattle.families.specs.declared.Kind.{Kind}
+use Rattle.families.specs.declared.placing.Outcome.{Outcome}
+use Rattle.families.specs.declared.placing.Outcome.the-variants.{Pending, Returned}
 use Rattle.recording.specs.declared.consistency_tester.Operation.{Operation}
 use Rattle.recording.specs.declared.consistency_tester.History.{History}
 use Rattle.recording.specs.declared.shape.Look.{Look}
 use Rattle.recording.specs.Record.{blankOperation, held, operationAt, findFlying}
-use Rattle.recording.specs.Shape.{family, outcomeFits, operationFits, shapeOf, shapedWith}
+use Rattle.recording.specs.Shape.{kindOf, outcomeFits, operationFits, shapeOf, shapedWith}
 use Rattle.recording.specs.Pass.{Looks, sizesFit, goesOn, countsIn, leftAfter, flyingAfter, noneLeft}
-use Rattle.recording.proofs.Laws.{held-cons, held-end, neither, both, never}
+use Rattle.recording.specs.RecordLaws.{held-cons, held-end, neither, both, never}
 use Rattle.recording.proofs.Passing.{rest, located, rest-start, located-start, rest-end, located-end, rest-unfit, rest-no, rest-yes, located-step}
 
 -- before the operation at place i
-pub record Looking (h : History) (f : ℕ) (flying left : List ℕ) (i : ℕ) : Type 0 where
+pub record Looking (h : History) (f : Kind) (flying left : List ℕ) (i : ℕ) : Type 0 where
   pub within : i ≤ h .count
   pub left-long : length left ≡ threads
   pub flying-long : length flying ≡ threads
   pub same : rest f left flying (drop i (held h)) ≡ shapeOf h
   pub placed : (t : ℕ) → located t i flying (drop i (held h)) ≡ findFlying t h
 
-pub look-start : (h : History) (f d : ℕ) → f ≡ family h → d ≡ depthOf (h .start .kind) → h .count ≤ capacity → d ≤ startRoom
+pub look-start : (h : History) (f : Kind) → f ≡ kindOf h → h .count ≤ capacity → isClear (startCheck f) ≡ true
     → length (h .done) ≡ threads → Looking h f (replicate threads 0) (h .done) 0
-look-start h f d e q a b l = record {
+look-start h f e a b l = record {
   within = omega arith;
   left-long = l;
   flying-long = length-replicate {A = ℕ} threads 0;
-  same = rw e (rest-start h (le-leb _ _ a) (ap (λ (n : ℕ). leb n startRoom) (sym q) ∙ le-leb d startRoom b));
+  same = rw e (rest-start h (le-leb _ _ a) (rw e at b));
   placed = located-start h;
 }
 
 -- an operation that fits is of one of the threads
-pub fits-known : (f : ℕ) (o : Operation) → operationFits f o ≡ true → o .thread < threads
+pub fits-known : (f : Kind) (o : Operation) → operationFits f o ≡ true → o .thread < threads
 unfolding operationFits
 fits-known f o e =
-    ltb-true _ _ (both (ltb (o .thread) threads) (pick (eqb (opFamily (o .op)) f) (outcomeFits f (o .outcome)) false) e .0)
+    ltb-true _ _ (both (ltb (o .thread) threads) (pick (isClear (opBelongs f (o .op))) (outcomeFits f (o .outcome)) false) e .0)
 
 left-length : (left : List ℕ) (o : Operation) → length (leftAfter left o) ≡ length left
 unfolding leftAfter
@@ -62,7 +62,7 @@ flying-length i flying o = go (o .outcome) refl
     go Pending e = rw e (length-set flying _ _)
     go (Returned r) e = rw e refl
 
-module _ (h : History) (long : h .count ≤ length (h .ops)) (f : ℕ) (flying left : List ℕ) (i : ℕ) (k : Looking h f flying left i) where
+module _ (h : History) (long : h .count ≤ length (h .ops)) (f : Kind) (flying left : List ℕ) (i : ℕ) (k : Looking h f flying left i) where
   next : i < h .count → drop i (held h) ≡ operationAt h i ∷ drop (i + 1) (held h)
   next l = held-cons (h .ops) (h .count) i blankOperation l long
 
@@ -117,18 +117,18 @@ looks-no noted h r a b =
 
 -- the sizes fit, or not
 
-pub sizes-yes : (noted : Bool) (count depth : ℕ) → sizesFit noted count depth ≡ true → (noted ≡ true) × ((count ≤ capacity) × (depth ≤ startRoom))
+pub sizes-yes : (noted : Bool) (count : ℕ) (k : Kind) → sizesFit noted count k ≡ true → (noted ≡ true) × ((count ≤ capacity) × (isClear (startCheck k) ≡ true))
 unfolding sizesFit
-sizes-yes noted count depth e =
-    let a = both noted (pick (leb count capacity) (leb depth startRoom) false) e in
-    let b = both (leb count capacity) (leb depth startRoom) (a .1) in
-    (a .0, (leb-true _ _ (b .0), leb-true _ _ (b .1)))
+sizes-yes noted count k e =
+    let a = both noted (pick (leb count capacity) (isClear (startCheck k)) false) e in
+    let b = both (leb count capacity) (isClear (startCheck k)) (a .1) in
+    (a .0, (leb-true _ _ (b .0), b .1))
 
-pub sizes-no : (noted : Bool) (h : History) (d : ℕ) → d ≡ depthOf (h .start .kind) → sizesFit noted (h .count) d ≡ false → (r : Look) → r .ok ≡ false
+pub sizes-no : (noted : Bool) (h : History) → sizesFit noted (h .count) (kindOf h) ≡ false → (r : Look) → r .ok ≡ false
     → Looks (shapedWith noted h) h r
 unfolding sizesFit shapeOf
-sizes-no noted h d q e r a =
-    let z : shapedWith noted h ≡ false = go noted (leb (h .count) capacity) (leb (depthOf (h .start .kind)) startRoom) _ (rw q at e) in
+sizes-no noted h e r a =
+    let z : shapedWith noted h ≡ false = go noted (leb (h .count) capacity) (isClear (startCheck (kindOf h))) _ e in
     record { ok = a ∙ sym z; places = λ s. never (sym z ∙ s) }
   where
     go : (n c d x : Bool) → pick n (pick c d false) false ≡ false → pick n (pick c (pick d x false) false) false ≡ false

@@ -3,43 +3,45 @@ use Prim.Native.Nat.{ℕ, _<_}
 use mathlib.Core.Path.{_≡_, refl, sym, ap, _∙_}
 use mathlib.Core.Bool.{Bool, true, false}
 use mathlib.Core.List.{List}
-use lib.Dec.{ltb, eqb}
+use lib.Dec.{ltb}
 use borrow.Author.Tests.{ltb-true}
-use Rattle.semantics.specs.Value.{pick}
-use Rattle.semantics.specs.Sizes.{threads, capacity}
-use Rattle.semantics.specs.Family.{opFamily}
-use Rattle.semantics.specs.declared.Op.{Op}
+use Rattle.families.specs.Value.{pick}
+use Rattle.families.specs.Sizes.{threads, capacity}
+use Rattle.families.specs.Refusals.{opBelongs}
+use Rattle.families.specs.declared.refusal.Check.{Check}
+use Rattle.families.specs.declared.refusal.Check.the-variants.{Clear, Refused}
+use Rattle.families.specs.declared.Op.{Op}
 use Rattle.recording.specs.declared.consistency_tester.History.{History}
 use Rattle.recording.specs.declared.consistency_tester.Flying.{Flying}
 use Rattle.recording.specs.declared.consistency_tester.Flying.the-variants.{At, Nothing}
-use Rattle.recording.specs.declared.consistency_tester.Recorded.the-variants.{AlreadyInvalid, NoSuchThread, OtherFamily, OutOfShape}
+use Rattle.recording.specs.declared.consistency_tester.Reason.the-variants.{AlreadyInvalid, NoSuchThread, OutOfShape}
 use Rattle.recording.specs.declared.consistency_tester.Step.{Step}
 use Rattle.recording.specs.declared.linearizability.LinearizabilityTester.{LinearizabilityTester}
 use Rattle.recording.specs.Record.{findFlying}
-use Rattle.recording.specs.Shape.{family}
-use Rattle.recording.specs.Events.{isTaken, unless, step, invokeBy, invokeOf}
+use Rattle.recording.specs.Shape.{kindOf}
+use Rattle.recording.specs.EventSteps.{isTaken, unless, refuse, owned, invokeBy, invokeOf}
 use Rattle.recording.specs.Testers.{shapedTester, notesWith, notesAfter, linearizabilityAfter, invokedBy, linearizabilityInvoke}
-use Rattle.recording.proofs.Laws.{never}
+use Rattle.recording.specs.RecordLaws.{never}
 
 -- there is room, and the thread is one of the eight
 pub taken-in : (shaped : Bool) (h : History) (t : ℕ) (op : Op) (s : Step) → s ≡ invokeOf shaped h t op → isTaken (s .recorded) ≡ true
     → (h .count < capacity) × (t < threads)
 unfolding invokeOf isTaken
 taken-in shaped h t op s e k =
-    go shaped (h .valid) (ltb t threads) refl (eqb (opFamily op) (family h)) (findFlying t h) (ltb (h .count) capacity) refl
+    go shaped (h .valid) (ltb t threads) refl (opBelongs (kindOf h) op) (findFlying t h) (ltb (h .count) capacity) refl
     (sym (ap (λ (s : Step). isTaken (s .recorded)) e) ∙ k)
   where
-    go : (a b c : Bool) → ltb t threads ≡ c → (d : Bool) (r : Flying) (m : Bool) → ltb (h .count) capacity ≡ m
-        → isTaken (unless a (step OutOfShape h) (unless b (step AlreadyInvalid h) (unless c (step NoSuchThread h) (unless d (step OtherFamily h)
-        (invokeBy r h t op)))) .recorded) ≡ true
+    go : (a b c : Bool) → ltb t threads ≡ c → (d : Check) (r : Flying) (m : Bool) → ltb (h .count) capacity ≡ m
+        → isTaken (unless a (refuse OutOfShape h) (unless b (refuse AlreadyInvalid h) (unless c (refuse NoSuchThread h) (owned d h (invokeBy r h t op))))
+        .recorded) ≡ true
         → (h .count < capacity) × (t < threads)
     go false b c p d r m q z = never z
     go true false c p d r m q z = never z
     go true true false p d r m q z = never z
-    go true true true p false r m q z = never z
-    go true true true p true (At i) m q z = never z
-    go true true true p true Nothing false q z = never (rw q at z)
-    go true true true p true Nothing true q z = (ltb-true _ _ q, ltb-true _ _ p)
+    go true true true p (Refused e) r m q z = never z
+    go true true true p Clear (At i) m q z = never z
+    go true true true p Clear Nothing false q z = never (rw q at z)
+    go true true true p Clear Nothing true q z = (ltb-true _ _ q, ltb-true _ _ p)
 
 module _ (t : LinearizabilityTester) (thread : ℕ) (op : Op) (s : Step) (e : s ≡ invokeOf (shapedTester t) (t .history) thread op) where
   written : List ℕ

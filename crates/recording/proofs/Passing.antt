@@ -9,20 +9,21 @@ use lib.Dec.{leb, eqb, eqb·suc-suc}
 use lib.ListN.{length, getD, set, replicate}
 use lib.Seq.{getD-set-same, getD-set-other}
 use borrow.Author.Tests.{eq-eqb, ne-eqb, eqb-true, eqb-false}
-use Rattle.semantics.specs.Value.{pick}
-use Rattle.semantics.specs.Sizes.{threads, capacity, startRoom}
-use Rattle.semantics.specs.Refusals.{depthOf}
-use Rattle.semantics.specs.declared.Ret.{Ret}
-use Rattle.semantics.specs.declared.placing.Outcome.{Outcome}
-use Rattle.semantics.specs.declared.placing.Outcome.the-variants.{Pending, Returned}
+use Rattle.families.specs.Value.{pick}
+use Rattle.families.specs.Sizes.{threads, capacity}
+use Rattle.families.specs.Refusals.{isClear, startCheck}
+use Rattle.families.specs.declared.Kind.{Kind}
+use Rattle.families.specs.declared.Ret.{Ret}
+use Rattle.families.specs.declared.placing.Outcome.{Outcome}
+use Rattle.families.specs.declared.placing.Outcome.the-variants.{Pending, Returned}
 use Rattle.recording.specs.declared.consistency_tester.Operation.{Operation}
 use Rattle.recording.specs.declared.consistency_tester.History.{History}
 use Rattle.recording.specs.declared.consistency_tester.Flying.{Flying}
 use Rattle.recording.specs.declared.consistency_tester.Flying.the-variants.{At, Nothing}
 use Rattle.recording.specs.Record.{held, isPending, flyingBy, flyingFrom, findFlying}
-use Rattle.recording.specs.Shape.{family, doneBy, countDone, operationFits, operationsFit, noneOf, flyingLast, countsRight, shapeOf}
+use Rattle.recording.specs.Shape.{kindOf, doneBy, countDone, operationFits, operationsFit, noneOf, flyingLast, countsRight, shapeOf}
 use Rattle.recording.specs.Pass.{placeOf, countsBy, goesOn, leftAfter, flyingAfter, noneLeft}
-use Rattle.recording.proofs.Laws.{neither, both, below-no, below-same}
+use Rattle.recording.specs.RecordLaws.{neither, both, below-no, below-same}
 
 -- no operation of a thread that has a mark
 unfoldable pub clear : List ℕ → List Operation → Bool
@@ -30,7 +31,7 @@ clear flying [] = true
 clear flying (o ∷ os) = pick (eqb (getD flying (o .thread) 0) 0) (clear flying os) false
 
 -- the operations that are left are in shape, with so many of each thread still to return and these marks
-unfoldable pub rest : ℕ → List ℕ → List ℕ → List Operation → Bool
+unfoldable pub rest : Kind → List ℕ → List ℕ → List Operation → Bool
 rest f left flying os =
     pick (operationsFit f os) (pick (flyingLast os) (pick (clear flying os) (countsRight left os) false) false) false
 
@@ -50,8 +51,8 @@ unfolding clear
 all-clear n [] = refl
 all-clear n (o ∷ os) = rw (eq-eqb _ _ (unmarked n (o .thread)), all-clear n os) refl
 
-pub rest-start : (h : History) → leb (h .count) capacity ≡ true → leb (depthOf (h .start .kind)) startRoom ≡ true
-    → rest (family h) (h .done) (replicate threads 0) (held h) ≡ shapeOf h
+pub rest-start : (h : History) → leb (h .count) capacity ≡ true → isClear (startCheck (kindOf h)) ≡ true
+    → rest (kindOf h) (h .done) (replicate threads 0) (held h) ≡ shapeOf h
 unfolding rest shapeOf
 rest-start h a b = rw (a, b, all-clear threads (held h)) refl
 
@@ -61,7 +62,7 @@ located-start h t = rw (eq-eqb _ _ (unmarked threads t)) refl
 
 -- at the end
 
-pub rest-end : (f : ℕ) (left flying : List ℕ) → noneLeft left ≡ rest f left flying []
+pub rest-end : (f : Kind) (left flying : List ℕ) → noneLeft left ≡ rest f left flying []
 unfolding rest operationsFit flyingLast clear countsRight noneLeft countDone
 rest-end f left flying = refl
 
@@ -75,7 +76,7 @@ located-end t i flying = go (eqb (getD flying t 0) 0)
 
 -- an operation that does not fit
 
-pub rest-unfit : (f : ℕ) (left flying : List ℕ) (o : Operation) (os : List Operation) → operationFits f o ≡ false
+pub rest-unfit : (f : Kind) (left flying : List ℕ) (o : Operation) (os : List Operation) → operationFits f o ≡ false
     → rest f left flying (o ∷ os) ≡ false
 unfolding rest operationsFit
 rest-unfit f left flying o os e = rw e refl
@@ -117,7 +118,7 @@ counts-short left o os r l b z =
     below-no (λ t. eqb (getD left t 0) (pick (doneBy t o) 1 0 + countDone t os)) threads (o .thread) l
     (rw (done-own o r b) (ne-eqb (getD left (o .thread) 0) (1 + countDone (o .thread) os) (λ q. absurd (omega arith))))
 
-pub rest-no : (f : ℕ) (left flying : List ℕ) (o : Operation) (os : List Operation) → o .thread < threads → goesOn left flying o ≡ false
+pub rest-no : (f : Kind) (left flying : List ℕ) (o : Operation) (os : List Operation) → o .thread < threads → goesOn left flying o ≡ false
     → rest f left flying (o ∷ os) ≡ false
 unfolding rest clear goesOn
 rest-no f left flying o os l e = go (eqb (getD flying (o .thread) 0) 0) refl (o .outcome) refl
@@ -215,7 +216,7 @@ mix true false true false e = refl
 mix true false false d e = refl
 mix false b c d e = refl
 
-pub rest-yes : (f i : ℕ) (left flying : List ℕ) (o : Operation) (os : List Operation) → o .thread < length left → o .thread < length flying
+pub rest-yes : (f : Kind) (i : ℕ) (left flying : List ℕ) (o : Operation) (os : List Operation) → o .thread < length left → o .thread < length flying
     → operationFits f o ≡ true → goesOn left flying o ≡ true
     → rest f left flying (o ∷ os) ≡ rest f (leftAfter left o) (flyingAfter i flying o) os
 unfolding rest operationsFit flyingLast clear leftAfter flyingAfter isPending

@@ -1,5 +1,10 @@
 pub mod Record
 pub mod Shape
-pub mod Events
+pub mod EventSteps
 pub mod Testers
 pub mod Pass
+pub mod OneStep
+pub mod RecordLaws
+pub mod HeldPlaces
+pub mod Admitting
+pub mod Drawn

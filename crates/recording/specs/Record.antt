@@ -3,17 +3,15 @@ use Prim.Native.Nat.{ℕ, _+_}
 use mathlib.Core.Bool.{Bool, true, false}
 use mathlib.Core.List.{List, [], _∷_}
 use lib.ListN.{getD, set, take, replicate}
-use lib.IntN.{pos}
 use lib.Dec.{eqb}
-use Rattle.semantics.specs.Value.{pick}
-use Rattle.semantics.specs.Sizes.{threads, capacity}
-use Rattle.semantics.specs.declared.Object.{Object}
-use Rattle.semantics.specs.declared.Op.{Op}
-use Rattle.semantics.specs.declared.Op.the-variants.{Register}
-use Rattle.semantics.specs.declared.Ret.{Ret}
-use Rattle.semantics.specs.declared.register.RegisterOp.the-variants.{Write}
-use Rattle.semantics.specs.declared.placing.Outcome.{Outcome}
-use Rattle.semantics.specs.declared.placing.Outcome.the-variants.{Pending, Returned}
+use Rattle.families.specs.Value.{pick}
+use Rattle.families.specs.Sizes.{threads, capacity}
+use Rattle.families.specs.Objects.{noOp}
+use Rattle.families.specs.declared.Object.{Object}
+use Rattle.families.specs.declared.Op.{Op}
+use Rattle.families.specs.declared.Ret.{Ret}
+use Rattle.families.specs.declared.placing.Outcome.{Outcome}
+use Rattle.families.specs.declared.placing.Outcome.the-variants.{Pending, Returned}
 use Rattle.recording.specs.declared.consistency_tester.Operation.{Operation}
 use Rattle.recording.specs.declared.consistency_tester.History.{History}
 use Rattle.recording.specs.declared.consistency_tester.Flying.{Flying}
@@ -25,7 +23,7 @@ operation t op outcome = record { thread = t; op = op; outcome = outcome }
 
 -- what stands in a place that was never taken
 abbrev pub blankOperation : Operation
-blankOperation = operation 0 (Register (Write (pos 0))) Pending
+blankOperation = operation 0 noOp Pending
 
 -- the operations that are held, in the order of their invocations; the places behind them count for nothing
 abbrev pub held : History → List Operation

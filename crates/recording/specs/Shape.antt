@@ -5,21 +5,22 @@ use mathlib.Core.Bool.{Bool, true, false}
 use mathlib.Core.List.{List, [], _∷_}
 use lib.ListN.{getD}
 use lib.Dec.{ltb, leb, eqb}
-use Rattle.semantics.specs.Value.{pick}
-use Rattle.semantics.specs.Sizes.{threads, capacity, startRoom}
-use Rattle.semantics.specs.Family.{familyOf, opFamily, retFamily}
-use Rattle.semantics.specs.Refusals.{depthOf}
-use Rattle.semantics.specs.declared.placing.Outcome.{Outcome}
-use Rattle.semantics.specs.declared.placing.Outcome.the-variants.{Pending, Returned}
-use Rattle.semantics.specs.declared.Ret.{Ret}
+use Rattle.families.specs.Value.{pick}
+use Rattle.families.specs.Sizes.{threads, capacity}
+use Rattle.families.specs.Refusals.{isClear, opBelongs, retBelongs, startCheck}
+use Rattle.families.specs.declared.Kind.{Kind}
+use Rattle.families.specs.declared.refusal.Check.the-variants.{Clear}
+use Rattle.families.specs.declared.placing.Outcome.{Outcome}
+use Rattle.families.specs.declared.placing.Outcome.the-variants.{Pending, Returned}
+use Rattle.families.specs.declared.Ret.{Ret}
 use Rattle.recording.specs.declared.consistency_tester.Operation.{Operation}
 use Rattle.recording.specs.declared.consistency_tester.History.{History}
 use Rattle.recording.specs.declared.linearizability.LinearizabilityTester.{LinearizabilityTester}
 use Rattle.recording.specs.Record.{held, operationAt, isPending}
 
--- the family of a history: that of its initial object
-abbrev pub family : History → ℕ
-family h = familyOf (h .start .kind)
+-- the object that a history starts with, but for its items
+abbrev pub kindOf : History → Kind
+kindOf h = h .start .kind
 
 -- an operation of thread t that has returned
 unfoldable pub doneBy : ℕ → Operation → Bool
@@ -42,14 +43,14 @@ notable done own u = pick (eqb u own) 0 done
 pub record InShape (h : History) : Type 0 where
   -- at most 64 operations
   pub few : h .count ≤ capacity
-  -- an initial stack of at most 32
-  pub low : depthOf (h .start .kind) ≤ startRoom
+  -- an initial object that a tester can start with: a stack of at most 32
+  pub startable : startCheck (kindOf h) ≡ Clear
   -- threads 0 to 7
   pub known : (i : ℕ) → i < h .count → operationAt h i .thread < threads
-  -- one family: operations
-  pub one-family : (i : ℕ) → i < h .count → opFamily (operationAt h i .op) ≡ family h
-  -- one family: returns
-  pub one-return-family : (i : ℕ) → i < h .count → (r : Ret) → operationAt h i .outcome ≡ Returned r → retFamily r ≡ family h
+  -- one family: the object's own operations
+  pub own-op : (i : ℕ) → i < h .count → opBelongs (kindOf h) (operationAt h i .op) ≡ Clear
+  -- one family: its own returns
+  pub own-ret : (i : ℕ) → i < h .count → (r : Ret) → operationAt h i .outcome ≡ Returned r → retBelongs (kindOf h) r ≡ Clear
   -- an operation in flight is its thread's last, so that no thread has two
   pub last : (i j : ℕ) → i < j → j < h .count → operationAt h i .thread ≡ operationAt h j .thread → isPending (operationAt h i .outcome) ≡ false
   -- each stored count is what is held
@@ -69,17 +70,17 @@ unfoldable pub allBelow : (ℕ → Bool) → ℕ → Bool
 allBelow p zero = true
 allBelow p (suc n) = pick (allBelow p n) (p n) false
 
-unfoldable pub outcomeFits : ℕ → Outcome → Bool
-outcomeFits f Pending = true
-outcomeFits f (Returned r) = eqb (retFamily r) f
+unfoldable pub outcomeFits : Kind → Outcome → Bool
+outcomeFits k Pending = true
+outcomeFits k (Returned r) = isClear (retBelongs k r)
 
--- one of the threads, and that family
-unfoldable pub operationFits : ℕ → Operation → Bool
-operationFits f o = pick (ltb (o .thread) threads) (pick (eqb (opFamily (o .op)) f) (outcomeFits f (o .outcome)) false) false
+-- one of the threads, and the object's own
+unfoldable pub operationFits : Kind → Operation → Bool
+operationFits k o = pick (ltb (o .thread) threads) (pick (isClear (opBelongs k (o .op))) (outcomeFits k (o .outcome)) false) false
 
-unfoldable pub operationsFit : ℕ → List Operation → Bool
-operationsFit f [] = true
-operationsFit f (o ∷ os) = pick (operationFits f o) (operationsFit f os) false
+unfoldable pub operationsFit : Kind → List Operation → Bool
+operationsFit k [] = true
+operationsFit k (o ∷ os) = pick (operationFits k o) (operationsFit k os) false
 
 -- no operation of thread t
 unfoldable pub noneOf : ℕ → List Operation → Bool
@@ -98,8 +99,8 @@ countsRight done os = allBelow (λ t. eqb (getD done t 0) (countDone t os)) thre
 unfoldable pub shapeOf : History → Bool
 shapeOf h =
     pick (leb (h .count) capacity)
-    (pick (leb (depthOf (h .start .kind)) startRoom)
-    (pick (operationsFit (family h) (held h))
+    (pick (isClear (startCheck (kindOf h)))
+    (pick (operationsFit (kindOf h) (held h))
     (pick (flyingLast (held h)) (countsRight (h .done) (held h)) false)
     false)
     false)

@@ -3,11 +3,11 @@ use Prim.Native.Nat.{ℕ, zero, suc, _+_, _*_}
 use mathlib.Core.Bool.{Bool, true}
 use mathlib.Core.List.{List}
 use lib.ListN.{getD, set, replicate}
-use Rattle.semantics.specs.Value.{pick}
-use Rattle.semantics.specs.Sizes.{threads, capacity}
-use Rattle.semantics.specs.declared.Object.{Object}
-use Rattle.semantics.specs.declared.Op.{Op}
-use Rattle.semantics.specs.declared.Ret.{Ret}
+use Rattle.families.specs.Value.{pick}
+use Rattle.families.specs.Sizes.{threads, capacity}
+use Rattle.families.specs.declared.Object.{Object}
+use Rattle.families.specs.declared.Op.{Op}
+use Rattle.families.specs.declared.Ret.{Ret}
 use Rattle.recording.specs.declared.consistency_tester.History.{History}
 use Rattle.recording.specs.declared.consistency_tester.Step.{Step}
 use Rattle.recording.specs.declared.sequential_consistency.SequentialConsistencyTester.{SequentialConsistencyTester}
@@ -17,7 +17,7 @@ use Rattle.recording.specs.declared.linearizability.LinearizabilityTeste
 use Rattle.recording.specs.declared.linearizability.New.{New as LNew}
 use Rattle.recording.specs.declared.linearizability.After.{After as LAfter}
 use Rattle.recording.specs.Shape.{notable, shapedWith, notesShaped}
-use Rattle.recording.specs.Events.{isTaken, begunOf, invokeOf, returnOf, sizeOf}
+use Rattle.recording.specs.EventSteps.{isTaken, begunOf, invokeOf, returnOf, sizeOf}
 
 -- the sequential tester: the history alone
 

@@ -1,29 +1,26 @@
 // What both testers share: the recorded operations, and what an event does to them.
-use crate::refusal::admit;
-use crate::refusal::check_invoke;
-use crate::refusal::check_return;
-use crate::refusal::place_at;
-use crate::refusal::place_in;
 use crate::refusal::valid_after;
 use crate::shape::look_at;
-use semantics::Object;
-use semantics::Op;
-use semantics::Ret;
-use semantics::family::family_of;
-use semantics::family::op_family;
-use semantics::family::ret_family;
-use semantics::placing::Outcome;
-use semantics::refusal::depth_of;
-use semantics::register::RegisterOp;
-use semantics::sizes::FULL;
-use semantics::sizes::OPERATIONS;
-use semantics::sizes::START;
-use semantics::sizes::THREADS;
+use crate::step::change_of;
+use crate::step::comes_to;
+use crate::step::place_for;
+use crate::step::thread_of;
+use families::Object;
+use families::Op;
+use families::event::Event;
+use families::no_op;
+use families::placing::Outcome;
+use families::refusal;
+use families::refusal::Check;
+use families::refusal::Refusal;
+use families::refusal::check_start;
+use families::sizes::OPERATIONS;
+use families::sizes::THREADS;
 ghost use mathlib.Core.Path.{_≡_};
-ghost use Rattle.semantics.specs.Calls.{zeros, newStack};
 ghost use Rattle.recording.specs.Record.{fresh};
 ghost use Rattle.recording.specs.Shape.{shapedWith};
-ghost use Rattle.recording.specs.Events.{numberOf, isTaken, madeNumberOf, madeOf, begun, begunOf, invokeOf, returnOf, sizeOf};
+ghost use Rattle.recording.specs.EventSteps.{reasonNumber, numberOf, isTaken, madeNumberOf, begunOf, sizeOf};
+ghost use Rattle.recording.specs.OneStep.{eventOf};
 
 // An operation of a thread, in flight or returned.
 pub struct Operation {
@@ -42,16 +39,35 @@ pub struct History {
     pub valid: bool,
 }
 
-// What recording an event comes to.
-pub enum Recorded {
-    Taken,
+// Why an event is refused.
+pub enum Reason {
     AlreadyInvalid,
     NoSuchThread,
-    OtherFamily,
+    NotOwn(Refusal),
     InFlight,
     NothingInFlight,
     Full,
     OutOfShape,
+}
+
+// What recording an event comes to.
+pub enum Recorded {
+    Taken,
+    Refused(Reason),
+}
+
+fn reason_number(reason: Reason) -> u8
+    ensures { λ r. ⌜ r ≡ reasonNumber reason ⌝ }
+{
+    match reason {
+        Reason::AlreadyInvalid => 1,
+        Reason::NoSuchThread => 2,
+        Reason::NotOwn(refusal) => refusal::number(refusal),
+        Reason::InFlight => 4,
+        Reason::NothingInFlight => 5,
+        Reason::Full => 6,
+        Reason::OutOfShape => 9,
+    }
 }
 
 // Its number in document 01.
@@ -60,13 +76,7 @@ pub fn number(recorded: Recorded) -> u8
 {
     match recorded {
         Recorded::Taken => 0,
-        Recorded::AlreadyInvalid => 1,
-        Recorded::NoSuchThread => 2,
-        Recorded::OtherFamily => 3,
-        Recorded::InFlight => 4,
-        Recorded::NothingInFlight => 5,
-        Recorded::Full => 6,
-        Recorded::OutOfShape => 9,
+        Recorded::Refused(reason) => reason_number(reason),
     }
 }
 
@@ -75,21 +85,14 @@ pub(crate) fn is_taken(recorded: Recorded) -> bool
 {
     match recorded {
         Recorded::Taken => true,
-        Recorded::AlreadyInvalid => false,
-        Recorded::NoSuchThread => false,
-        Recorded::OtherFamily => false,
-        Recorded::InFlight => false,
-        Recorded::NothingInFlight => false,
-        Recorded::Full => false,
-        Recorded::OutOfShape => false,
+        Recorded::Refused(_) => false,
     }
 }
 
 // What a constructor comes to.
 pub enum Made {
     New,
-    StartTooDeep,
-    OutOfShape,
+    Refused(Refusal),
 }
 
 // Its number in document 01.
@@ -98,8 +101,7 @@ pub fn made_number(made: Made) -> u8
 {
     match made {
         Made::New => 0,
-        Made::StartTooDeep => 8,
-        Made::OutOfShape => 9,
+        Made::Refused(refusal) => refusal::number(refusal),
     }
 }
 
@@ -107,8 +109,7 @@ pub fn made_number(made: Made) -> u8
 fn empty(start: Object) -> History
     ensures { λ r. ⌜ r ≡ fresh start ⌝ }
 {
-    let write = RegisterOp::Write(0);
-    let op = Op::Register(write);
+    let op = no_op();
     let outcome = Outcome::Pending;
     let blank = Operation {
         thread: 0,
@@ -124,46 +125,32 @@ fn empty(start: Object) -> History
     }
 }
 
-// What making a tester of that initial object comes to.
-fn check_start(start: Object) -> Made
-    ensures { λ r. ⌜ r ≡ madeOf start ⌝ }
-{
-    let kind = start.kind;
-    let depth = depth_of(kind);
-    if FULL < depth {
-        return Made::OutOfShape;
-    }
-    if START < depth {
-        return Made::StartTooDeep;
-    }
-    Made::New
-}
-
 pub struct Begun {
     pub made: Made,
     pub history: History,
 }
 
-fn empty_stack(made: Made) -> Begun
-    ensures { λ r. ⌜ r ≡ begun made (fresh (newStack zeros 0)) ⌝ }
-{
-    let stack = Object::default_stack();
-    let history = empty(stack);
-    Begun { made, history }
-}
-
-// A refused object leaves a fresh history of the empty stack.
+// A refused object leaves a fresh history of the one that stands in for it.
 pub(crate) fn begin(start: Object) -> Begun
     ensures { λ r. ⌜ r ≡ begunOf start ⌝ }
 {
-    let m = check_start(start);
-    match m {
-        Made::New => {
+    let kind = start.kind;
+    match check_start(kind) {
+        Check::Clear => {
             let history = empty(start);
-            Begun { made: m, history }
+            Begun {
+                made: Made::New,
+                history,
+            }
         }
-        Made::StartTooDeep => empty_stack(m),
-        Made::OutOfShape => empty_stack(m),
+        Check::Refused(refusal) => {
+            let default = Object::stand_in(kind);
+            let history = empty(default);
+            Begun {
+                made: Made::Refused(refusal),
+                history,
+            }
+        }
     }
 }
 
@@ -179,57 +166,26 @@ pub enum Flying {
     Nothing,
 }
 
-// Puts an operation in flight. `noted`: what stands beside the history is in shape.
-pub(crate) fn invoke(mut history: History, thread: u32, op: Op, noted: bool) -> Step
-    ensures { λ r. ⌜ r ≡ invokeOf (shapedWith noted history) history thread op ⌝ }
+// Records an event. `noted`: what stands beside the history is in shape.
+pub(crate) fn record_event(mut history: History, event: Event, noted: bool) -> Step
+    ensures { λ r. ⌜ r ≡ eventOf (shapedWith noted history) history event ⌝ }
 {
     let look = look_at(history, noted);
     let flying = look.flying;
-    let place = place_in(&flying, thread);
     let start = history.start;
     let kind = start.kind;
-    let same = op_family(op) == family_of(kind);
     let count = history.count;
-    let recorded = check_invoke(admit(look.ok, history.valid, thread, same), place, count);
+    let recorded = comes_to(event, look.ok, history.valid, kind, &flying, count);
     if is_taken(recorded) {
-        let o = Operation {
-            thread: thread as u8,
-            op,
-            outcome: Outcome::Pending,
-        };
-        history.ops[count] = o;
-        history.count = count + 1;
-        return Step { recorded, history };
-    }
-    history.valid = valid_after(history.valid, recorded);
-    Step { recorded, history }
-}
-
-// Completes the thread's operation in flight.
-pub(crate) fn returns(mut history: History, thread: u32, ret: Ret, noted: bool) -> Step
-    ensures { λ r. ⌜ r ≡ returnOf (shapedWith noted history) history thread ret ⌝ }
-{
-    let look = look_at(history, noted);
-    let flying = look.flying;
-    let place = place_in(&flying, thread);
-    let start = history.start;
-    let kind = start.kind;
-    let same = ret_family(ret) == family_of(kind);
-    let recorded = check_return(admit(look.ok, history.valid, thread, same), place);
-    if is_taken(recorded) {
-        let at = place_at(place);
+        let at = place_for(event, &flying, count);
+        let t = thread_of(event) as usize;
         let o = history.ops[at];
-        let op = o.op;
-        let after = Operation {
-            thread: o.thread,
-            op,
-            outcome: Outcome::Returned(ret),
-        };
-        history.ops[at] = after;
-        let own = thread as usize;
         let done = history.done;
-        let d = done[own];
-        history.done[own] = d + 1;
+        let change = change_of(event, o, at, count, done[t]);
+        let operation = change.operation;
+        history.ops[at] = operation;
+        history.count = change.count;
+        history.done[t] = change.done;
         return Step { recorded, history };
     }
     history.valid = valid_after(history.valid, recorded);

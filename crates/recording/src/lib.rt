@@ -5,3 +5,4 @@ pub mod linearizability;
 pub mod refusal;
 pub mod sequential_consistency;
 pub mod shape;
+pub mod step;

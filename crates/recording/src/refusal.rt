@@ -1,11 +1,14 @@
 // Why an event is refused, and in which order the reasons are looked at.
 use crate::consistency_tester::Flying;
+use crate::consistency_tester::Reason;
 use crate::consistency_tester::Recorded;
 use crate::consistency_tester::is_taken;
-use semantics::sizes::OPERATIONS;
-use semantics::sizes::THREADS;
+use families::refusal::Check;
+use families::sizes::OPERATIONS;
+use families::sizes::THREADS;
 ghost use mathlib.Core.Path.{_≡_};
-ghost use Rattle.recording.specs.Pass.{placeOf, placeIn, placeAt, admitOf, invokeCheck, returnCheck, validAfter};
+ghost use Rattle.recording.specs.EventSteps.{breaks as breaksOf, validAfter};
+ghost use Rattle.recording.specs.Pass.{placeOf, placeIn, placeAt, checkedOf, admitOf, invokeCheck, returnCheck};
 
 // The place that a mark of `look_at` says: 0 for none, else one more than the place.
 fn place_of(mark: u8) -> Flying
@@ -19,7 +22,7 @@ fn place_of(mark: u8) -> Flying
 }
 
 // Where the thread has its operation in flight.
-pub fn place_in(flying: &[u8; THREADS], thread: u32) -> Flying
+pub(crate) fn place_in(flying: &[u8; THREADS], thread: u32) -> Flying
     ensures { λ r. ⌜ r ≡ placeIn (now (flying .entry)) thread ⌝ }
 {
     let own = thread as usize;
@@ -30,7 +33,7 @@ pub fn place_in(flying: &[u8; THREADS], thread: u32) -> Flying
 }
 
 // That place as a number.
-pub fn place_at(place: Flying) -> usize
+pub(crate) fn place_at(place: Flying) -> usize
     ensures { λ r. ⌜ r ≡ placeAt place ⌝ }
 {
     match place {
@@ -39,40 +42,53 @@ pub fn place_at(place: Flying) -> usize
     }
 }
 
-// The refusals that any event can meet first: 9, 1, 2, 3.
-pub fn admit(shaped: bool, valid: bool, thread: u32, same: bool) -> Recorded
-    ensures { λ r. ⌜ r ≡ admitOf shaped valid thread same ⌝ }
+fn refused(reason: Reason) -> Recorded
+    ensures { λ r. ⌜ r ≡ Recorded.Refused reason ⌝ }
 {
-    let own = thread as usize;
+    Recorded::Refused(reason)
+}
+
+// What the object says of an operation or a return.
+fn checked(own: Check) -> Recorded
+    ensures { λ r. ⌜ r ≡ checkedOf own ⌝ }
+{
+    match own {
+        Check::Clear => Recorded::Taken,
+        Check::Refused(refusal) => refused(Reason::NotOwn(refusal)),
+    }
+}
+
+// The refusals that any event can meet first: 9, 1, 2, and whether the operation or return is the object's own.
+pub(crate) fn admit(shaped: bool, valid: bool, thread: u32, own: Check) -> Recorded
+    ensures { λ r. ⌜ r ≡ admitOf shaped valid thread own ⌝ }
+{
+    let t = thread as usize;
     if shaped {
         if valid {
-            if own < THREADS {
-                if same {
-                    return Recorded::Taken;
-                }
-                return Recorded::OtherFamily;
+            if t < THREADS {
+                return checked(own);
             }
-            return Recorded::NoSuchThread;
+            return refused(Reason::NoSuchThread);
         }
-        return Recorded::AlreadyInvalid;
+        return refused(Reason::AlreadyInvalid);
     }
-    Recorded::OutOfShape
+    refused(Reason::OutOfShape)
 }
 
 // An invocation that is admitted: 4, 6.
-pub fn check_invoke(first: Recorded, place: Flying, count: usize) -> Recorded
+pub(crate) fn check_invoke(first: Recorded, place: Flying, count: usize) -> Recorded
     ensures { λ r. ⌜ r ≡ invokeCheck first place count ⌝ }
 {
     if is_taken(first) {
         match place {
             Flying::At(_) => {
-                return Recorded::InFlight;
+                return refused(Reason::InFlight);
             }
             Flying::Nothing => {
                 if count < OPERATIONS {
                     return Recorded::Taken;
                 }
-                return Recorded::Full;
+                return refused(Reason::Full);
             }
         }
     }
@@ -80,7 +96,7 @@ pub fn check_invoke(first: Recorded, place: Flying, count: usize) -> Recorded
 }
 
 // A return that is admitted: 5.
-pub fn check_return(first: Recorded, place: Flying) -> Recorded
+pub(crate) fn check_return(first: Recorded, place: Flying) -> Recorded
     ensures { λ r. ⌜ r ≡ returnCheck first place ⌝ }
 {
     if is_taken(first) {
@@ -89,7 +105,7 @@ pub fn check_return(first: Recorded, place: Flying) -> Recorded
                 return Recorded::Taken;
             }
             Flying::Nothing => {
-                return Recorded::NothingInFlight;
+                return refused(Reason::NothingInFlight);
             }
         }
     }
@@ -97,17 +113,30 @@ pub fn check_return(first: Recorded, place: Flying) -> Recorded
 }
 
 // 4 and 5 turn validity off for good.
+fn breaks(reason: Reason) -> bool
+    ensures { λ r. ⌜ r ≡ breaksOf reason ⌝ }
+{
+    match reason {
+        Reason::AlreadyInvalid => false,
+        Reason::NoSuchThread => false,
+        Reason::NotOwn(_) => false,
+        Reason::InFlight => true,
+        Reason::NothingInFlight => true,
+        Reason::Full => false,
+        Reason::OutOfShape => false,
+    }
+}
+
 pub fn valid_after(valid: bool, recorded: Recorded) -> bool
     ensures { λ r. ⌜ r ≡ validAfter valid recorded ⌝ }
 {
     match recorded {
         Recorded::Taken => valid,
-        Recorded::AlreadyInvalid => valid,
-        Recorded::NoSuchThread => valid,
-        Recorded::OtherFamily => valid,
-        Recorded::InFlight => false,
-        Recorded::NothingInFlight => false,
-        Recorded::Full => valid,
-        Recorded::OutOfShape => valid,
+        Recorded::Refused(reason) => {
+            if breaks(reason) {
+                return false;
+            }
+            valid
+        }
     }
 }

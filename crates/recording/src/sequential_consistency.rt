@@ -4,9 +4,10 @@ use crate::consistency_tester::History;
 use crate::consistency_tester::Made;
 use crate::consistency_tester::Recorded;
 use crate::shape::look_at;
-use semantics::Object;
-use semantics::Op;
-use semantics::Ret;
+use families::Object;
+use families::Op;
+use families::Ret;
+use families::event::Event;
 ghost use mathlib.Core.Path.{_≡_};
 ghost use mathlib.Core.Bool.{true};
 ghost use Rattle.recording.specs.Shape.{shapedWith};
@@ -44,7 +45,8 @@ impl SequentialConsistencyTester {
         ensures { λ r. ⌜ r ≡ sequentialInvoke self thread op ⌝ }
     {
         let before = self.history;
-        let step = consistency_tester::invoke(before, thread, op, true);
+        let event = Event::Invoked { thread, op };
+        let step = consistency_tester::record_event(before, event, true);
         let recorded = step.recorded;
         let history = step.history;
         let tester = SequentialConsistencyTester { history };
@@ -56,7 +58,8 @@ impl SequentialConsistencyTester {
         ensures { λ r. ⌜ r ≡ sequentialReturn self thread ret ⌝ }
     {
         let before = self.history;
-        let step = consistency_tester::returns(before, thread, ret, true);
+        let event = Event::Returned { thread, ret };
+        let step = consistency_tester::record_event(before, event, true);
         let recorded = step.recorded;
         let history = step.history;
         let tester = SequentialConsistencyTester { history };

@@ -1,18 +1,18 @@
 // Whether a history is one that calls could have made, in one pass over its operations.
 use crate::consistency_tester::History;
 use crate::consistency_tester::Operation;
-use semantics::family::family_of;
-use semantics::family::op_family;
-use semantics::family::ret_family;
-use semantics::placing::Outcome;
-use semantics::refusal::depth_of;
-use semantics::sizes::OPERATIONS;
-use semantics::sizes::START;
-use semantics::sizes::THREADS;
+use families::Kind;
+use families::placing::Outcome;
+use families::refusal::check_start;
+use families::refusal::is_clear;
+use families::refusal::op_belongs;
+use families::refusal::ret_belongs;
+use families::sizes::OPERATIONS;
+use families::sizes::THREADS;
 ghost use mathlib.Core.Path.{_≡_};
 ghost use mathlib.Core.Bool.{true};
 ghost use Prim.Native.Nat.{_<_};
-ghost use Rattle.semantics.specs.Sizes.{capacity};
+ghost use Rattle.families.specs.Sizes.{capacity};
 ghost use Rattle.recording.specs.Shape.{operationFits, outcomeFits, shapedWith};
 ghost use Rattle.recording.specs.Pass.{Looks, sizesFit, countsIn, leftAfter, flyingAfter, noneLeft};
 
@@ -23,25 +23,25 @@ pub struct Look {
     pub flying: [u8; THREADS],
 }
 
-fn outcome_fits(outcome: Outcome, family: u8) -> bool
-    ensures { λ r. ⌜ r ≡ outcomeFits family outcome ⌝ }
+fn outcome_fits(outcome: Outcome, kind: Kind) -> bool
+    ensures { λ r. ⌜ r ≡ outcomeFits kind outcome ⌝ }
 {
     match outcome {
         Outcome::Pending => true,
-        Outcome::Returned(ret) => ret_family(ret) == family,
+        Outcome::Returned(ret) => is_clear(ret_belongs(kind, ret)),
     }
 }
 
-// An operation of one of the threads, of that family.
-fn operation_fits(o: Operation, family: u8) -> bool
-    ensures { λ r. ⌜ r ≡ operationFits family o ⌝ }
+// An operation of one of the threads, that the object has.
+fn operation_fits(o: Operation, kind: Kind) -> bool
+    ensures { λ r. ⌜ r ≡ operationFits kind o ⌝ }
 {
     let own = o.thread as usize;
     if own < THREADS {
         let op = o.op;
-        if op_family(op) == family {
+        if is_clear(op_belongs(kind, op)) {
             let outcome = o.outcome;
-            return outcome_fits(outcome, family);
+            return outcome_fits(outcome, kind);
         }
     }
     false
@@ -51,17 +51,17 @@ fn operation_fits(o: Operation, family: u8) -> bool
 // those still to come. Answers false where it is not so.
 fn count_in(
     o: Operation,
-    family: u8,
+    kind: Kind,
     at: usize,
     left: &mut [u8; THREADS],
     flying: &mut [u8; THREADS],
 ) -> bool
     requires { ⌜ at < capacity ⌝ }
-    ensures { λ r. ⌜ r ≡ countsIn family (now (left .entry)) (now (flying .entry)) o ⌝ }
+    ensures { λ r. ⌜ r ≡ countsIn kind (now (left .entry)) (now (flying .entry)) o ⌝ }
     ensures { λ r. ⌜ (r ≡ true → now (left .exit) ≡ leftAfter (now (left .entry)) o) ⌝ }
     ensures { λ r. ⌜ (r ≡ true → now (flying .exit) ≡ flyingAfter at (now (flying .entry)) o) ⌝ }
 {
-    if operation_fits(o, family) {
+    if operation_fits(o, kind) {
         let own = o.thread as usize;
         let mark = flying[own];
         if mark == 0 {
@@ -101,13 +101,13 @@ fn none_left(left: &[u8; THREADS]) -> bool
     true
 }
 
-// Not too many operations, and not too deep a stack.
-fn sizes_fit(noted: bool, count: usize, depth: u32) -> bool
-    ensures { λ r. ⌜ r ≡ sizesFit noted count depth ⌝ }
+// Not too many operations, and an object that a tester can start with.
+fn sizes_fit(noted: bool, count: usize, kind: Kind) -> bool
+    ensures { λ r. ⌜ r ≡ sizesFit noted count kind ⌝ }
 {
     if noted {
         if count <= OPERATIONS {
-            return depth <= START;
+            return is_clear(check_start(kind));
         }
     }
     false
@@ -121,13 +121,12 @@ pub(crate) fn look_at(history: History, noted: bool) -> Look
     let count = history.count;
     let start = history.start;
     let kind = start.kind;
-    if sizes_fit(noted, count, depth_of(kind)) {
-        let family = family_of(kind);
+    if sizes_fit(noted, count, kind) {
         let mut left = history.done;
         let mut i = 0;
         while i < count {
             let o = history.ops[i];
-            if count_in(o, family, i, &mut left, &mut flying) {
+            if count_in(o, kind, i, &mut left, &mut flying) {
                 i += 1;
             } else {
                 return Look { ok: false, flying };

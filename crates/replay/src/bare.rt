@@ -6,15 +6,15 @@ use crate::fields::first;
 use crate::numbers::LONGEST;
 use crate::numbers::line_end;
 use crate::numbers::read;
+use crate::objects::blank;
 use crate::tally::COUNTS;
 use crate::tally::call_of;
 use crate::tally::with_line;
-use semantics::Object;
 
 pub fn replay(text: &[u8]) -> [u64; COUNTS] {
     let mut counts = [0; COUNTS];
     let mut line = [0; LONGEST];
-    let mut object = Object::default_register();
+    let mut object = blank(0);
     let mut family = NONE;
     let mut at = 0;
     while at < text.len() {

@@ -1,16 +1,17 @@
 // The three calls on a bare object, made and compared with what the list says of them.
 use crate::came;
 use crate::came::judged;
+use crate::codes::is_said;
 use crate::codes::op_at;
 use crate::codes::step_at;
+use crate::fields::NONE;
 use crate::fields::from;
 use crate::fields::natural;
 use crate::numbers::LONGEST;
 use crate::objects::holds;
 use crate::objects::object_at;
-use crate::returns::is_said;
+use families::Object;
 use semantics::Answer;
-use semantics::Object;
 use semantics::Said;
 use semantics::Stepped;
 
@@ -33,7 +34,7 @@ pub fn compared(family: u64, object: Object, numbers: &[u64]) -> Left {
     if lead == 0 {
         return started(fields);
     }
-    if family <= 2 {
+    if family != NONE {
         if lead == 1 {
             return invoked(family, object, fields);
         }
@@ -66,7 +67,8 @@ fn invoked(family: u64, object: Object, fields: &[u64]) -> Left {
         let invoked = semantics::invoke(object, op);
         let answer = invoked.answer;
         let object = invoked.object;
-        let agrees = is_answer(answer, family, from(fields, 2)) && holds(object, from(fields, 5));
+        let agrees = is_answer(answer, family, from(fields, 2))
+            && holds(object, family, from(fields, 5));
         let came = judged(agrees);
         return Left { came, object };
     }
@@ -87,16 +89,16 @@ fn stepped(family: u64, object: Object, fields: &[u64]) -> Left {
     let ret = step.ret;
     if step.good {
         let stepped = semantics::is_valid_step(object, op, ret);
-        return ended(stepped, from(fields, 5));
+        return ended(stepped, family, from(fields, 5));
     }
     unreadable(object)
 }
 
 // Y n v1 … vn
-fn ended(stepped: Stepped, fields: &[u64]) -> Left {
+fn ended(stepped: Stepped, family: u64, fields: &[u64]) -> Left {
     let said = stepped.said;
     let object = stepped.object;
-    let agrees = says(said, natural(fields, 0)) && holds(object, from(fields, 1));
+    let agrees = says(said, natural(fields, 0)) && holds(object, family, from(fields, 1));
     let came = judged(agrees);
     Left { came, object }
 }
@@ -134,7 +136,7 @@ fn walked(family: u64, object: Object, fields: &[u64]) -> Left {
         left -= 1;
     }
     if walk.readable {
-        return ended(walk.stepped, from(fields, at));
+        return ended(walk.stepped, family, from(fields, at));
     }
     unreadable(object)
 }

@@ -1,18 +1,27 @@
-// Operations and returns by their numbers in the lists, each within its family: 0 register, 1 write-once
-// register, 2 stack.
+// Operations and returns of the lists, by the families' table of numbers.
+use crate::fields::NONE;
+use crate::fields::fits;
 use crate::fields::from;
-use crate::fields::has_value;
+use crate::fields::narrow;
 use crate::fields::natural;
-use crate::fields::value_or_zero;
-use semantics::Op;
-use semantics::Ret;
-use semantics::register::RegisterOp;
-use semantics::register::RegisterRet;
-use semantics::value::Maybe;
-use semantics::vec::VecOp;
-use semantics::vec::VecRet;
-use semantics::write_once_register::WORegisterOp;
-use semantics::write_once_register::WORegisterRet;
+use crate::fields::value;
+use crate::objects::blank;
+use families::Kind;
+use families::Op;
+use families::Ret;
+use families::coded::Coded;
+use families::coded::Form;
+use families::codes::op_form;
+use families::codes::op_from;
+use families::codes::ret_coded;
+use families::codes::ret_form;
+use families::codes::ret_from;
+
+// The one return of the lists that carries a natural number and no value, a length: the object's number, and
+// its own.
+const COUNTED: u64 = 2;
+
+const LENGTH: u64 = 2;
 
 // An operation; where it is not good there is none.
 pub struct OpRead {
@@ -26,204 +35,80 @@ pub struct RetRead {
     pub ret: Ret,
 }
 
-// OP V: whether the family has such an operation, and no value stands where it takes none.
-fn is_op(family: u64, fields: &[u64]) -> bool {
-    let code = natural(fields, 0);
-    if has_value(fields, 1) {
-        if code == 0 {
-            return true;
-        }
-        if value_or_zero(fields, 1) == 0 {
-            if code == 1 {
-                return true;
-            }
-            if code == 2 {
-                return family == 2;
-            }
-        }
-    }
-    false
-}
-
-fn register_op(code: u64, v: i32) -> Op {
-    if code == 0 {
-        let op = RegisterOp::Write(v);
-        return Op::Register(op);
-    }
-    let op = RegisterOp::Read;
-    Op::Register(op)
-}
-
-fn write_once_op(code: u64, v: i32) -> Op {
-    if code == 0 {
-        let op = WORegisterOp::Write(v);
-        return Op::WORegister(op);
-    }
-    let op = WORegisterOp::Read;
-    Op::WORegister(op)
-}
-
-fn stack_op(code: u64, v: i32) -> Op {
-    if code == 0 {
-        let op = VecOp::Push(v);
-        return Op::Vec(op);
-    }
-    if code == 1 {
-        let op = VecOp::Pop;
-        return Op::Vec(op);
-    }
-    let op = VecOp::Len;
-    Op::Vec(op)
-}
-
-fn op_of(family: u64, code: u64, v: i32) -> Op {
-    if family == 0 {
-        return register_op(code, v);
-    }
-    if family == 1 {
-        return write_once_op(code, v);
-    }
-    stack_op(code, v)
-}
-
-// OP V
-pub fn op_at(family: u64, fields: &[u64]) -> OpRead {
-    let good = is_op(family, fields);
-    let op = op_of(family, natural(fields, 0), value_or_zero(fields, 1));
-    OpRead { good, op }
-}
-
-// RN RV: whether nothing is carried.
-pub fn is_nothing(fields: &[u64]) -> bool {
-    if natural(fields, 0) == 0 {
-        return natural(fields, 1) == 0;
-    }
-    false
-}
-
-// Whether a value is.
-fn is_something(fields: &[u64]) -> bool {
-    if natural(fields, 0) == 1 {
-        return has_value(fields, 1);
-    }
-    false
-}
-
-fn is_either(fields: &[u64]) -> bool {
-    if is_nothing(fields) {
-        return true;
-    }
-    is_something(fields)
-}
-
-// A length is a natural number of 32 bits.
-fn is_length(fields: &[u64]) -> bool {
-    if natural(fields, 0) == 1 {
-        return natural(fields, 1) <= u32::MAX as u64;
-    }
-    false
-}
-
-// What a return carries.
-fn maybe_at(fields: &[u64]) -> Maybe {
-    if natural(fields, 0) == 0 {
-        return Maybe::Nothing;
-    }
-    let v = value_or_zero(fields, 1);
-    Maybe::Value(v)
-}
-
-fn length_at(fields: &[u64]) -> u32 {
-    let length = natural(fields, 1);
-    if length <= u32::MAX as u64 {
-        return length as u32;
-    }
-    0
-}
-
-// RET RN RV: whether the family has such a return.
-fn is_ret(family: u64, fields: &[u64]) -> bool {
-    let code = natural(fields, 0);
-    let carried = from(fields, 1);
-    if code == 0 {
-        return is_nothing(carried);
-    }
-    if family == 0 {
-        return code == 1 && is_something(carried);
-    }
-    if family == 1 {
-        if code == 1 {
-            return is_nothing(carried);
-        }
-        return code == 2 && is_either(carried);
-    }
-    if code == 1 {
-        return is_either(carried);
-    }
-    code == 2 && is_length(carried)
-}
-
-fn register_ret(code: u64, carried: &[u64]) -> Ret {
-    if code == 0 {
-        let ret = RegisterRet::WriteOk;
-        return Ret::Register(ret);
-    }
-    let v = value_or_zero(carried, 1);
-    let ret = RegisterRet::ReadOk(v);
-    Ret::Register(ret)
-}
-
-fn write_once_ret(code: u64, carried: &[u64]) -> Ret {
-    if code == 0 {
-        let ret = WORegisterRet::WriteOk;
-        return Ret::WORegister(ret);
-    }
-    if code == 1 {
-        let ret = WORegisterRet::WriteFail;
-        return Ret::WORegister(ret);
-    }
-    let m = maybe_at(carried);
-    let ret = WORegisterRet::ReadOk(m);
-    Ret::WORegister(ret)
-}
-
-fn stack_ret(code: u64, carried: &[u64]) -> Ret {
-    if code == 0 {
-        let ret = VecRet::PushOk;
-        return Ret::Vec(ret);
-    }
-    if code == 1 {
-        let m = maybe_at(carried);
-        let ret = VecRet::PopOk(m);
-        return Ret::Vec(ret);
-    }
-    let length = length_at(carried);
-    let ret = VecRet::LenOk(length);
-    Ret::Vec(ret)
-}
-
-fn ret_of(family: u64, code: u64, carried: &[u64]) -> Ret {
-    if family == 0 {
-        return register_ret(code, carried);
-    }
-    if family == 1 {
-        return write_once_ret(code, carried);
-    }
-    stack_ret(code, carried)
-}
-
-// RET RN RV
-pub fn ret_at(family: u64, fields: &[u64]) -> RetRead {
-    let good = is_ret(family, fields);
-    let ret = ret_of(family, natural(fields, 0), from(fields, 1));
-    RetRead { good, ret }
-}
-
-// An operation and its return; where it is not good there are none.
+// An operation and its return likewise.
 pub struct Step {
     pub good: bool,
     pub op: Op,
     pub ret: Ret,
+}
+
+fn kind_of(family: u64) -> Kind {
+    let object = blank(family);
+    object.kind
+}
+
+// Whether an operation of that form may have the V `word`, which is 0 where there is no value.
+fn takes(form: Form, word: u64) -> bool {
+    match form {
+        Form::Number => fits(word),
+        Form::Bare => word == 0,
+        _ => false,
+    }
+}
+
+// OP V
+pub fn op_at(family: u64, fields: &[u64]) -> OpRead {
+    let kind = kind_of(family);
+    let number = narrow(natural(fields, 0));
+    let word = value(fields, 1);
+    let good = takes(op_form(kind, number), word);
+    let coded = Coded {
+        number,
+        count: 1,
+        word: narrow(word),
+    };
+    let op = op_from(kind, coded);
+    OpRead { good, op }
+}
+
+// RET RN RV: the last as a corpus file sends it.
+fn carried_at(family: u64, fields: &[u64]) -> u64 {
+    if family == COUNTED && natural(fields, 0) == LENGTH {
+        let length = natural(fields, 2);
+        if fits(length) {
+            return length;
+        }
+        return NONE;
+    }
+    value(fields, 2)
+}
+
+// Whether a return of that form may carry so many values, and this.
+fn carries(form: Form, count: u32, word: u64) -> bool {
+    let nothing = count == 0 && word == 0;
+    let one = count == 1 && fits(word);
+    match form {
+        Form::Unknown => false,
+        Form::Bare => nothing,
+        Form::Number => one,
+        Form::Flagged => nothing || one,
+    }
+}
+
+// RET RN RV
+pub fn ret_at(family: u64, fields: &[u64]) -> RetRead {
+    let kind = kind_of(family);
+    let number = narrow(natural(fields, 0));
+    let count = narrow(natural(fields, 1));
+    let word = carried_at(family, fields);
+    let good = carries(ret_form(kind, number), count, word);
+    let coded = Coded {
+        number,
+        count,
+        word: narrow(word),
+    };
+    let ret = ret_from(kind, coded);
+    RetRead { good, ret }
 }
 
 // OP V RET RN RV
@@ -234,4 +119,15 @@ pub fn step_at(family: u64, fields: &[u64]) -> Step {
     let op = invoked.op;
     let ret = returned.ret;
     Step { good, op, ret }
+}
+
+// Whether a return is the one that RET RN RV say.
+pub fn is_said(ret: Ret, family: u64, fields: &[u64]) -> bool {
+    let coded = ret_coded(ret);
+    let number = coded.number as u64;
+    let count = coded.count as u64;
+    let word = coded.word as u64;
+    number == natural(fields, 0)
+        && count == natural(fields, 1)
+        && word == carried_at(family, fields)
 }

@@ -2,10 +2,11 @@
 use crate::codes::op_at;
 use crate::codes::ret_at;
 use crate::fields::from;
+use crate::fields::narrow;
 use crate::fields::natural;
-use semantics::Op;
-use semantics::Ret;
-use semantics::sizes::THREADS;
+use families::Op;
+use families::Ret;
+use families::sizes::THREADS;
 
 // The numbers that begin a line with an event.
 pub const INVOKE: u64 = 1;
@@ -25,15 +26,15 @@ pub struct Event {
 
 // T, then OP V or RET RN RV or both.
 pub fn event_at(lead: u64, family: u64, fields: &[u64]) -> Event {
+    let thread = natural(fields, 0);
     let invoked = op_at(family, from(fields, 1));
     let returned = ret_at(family, from(fields, returned_at(lead)));
-    let good = is_known(lead, invoked.good, returned.good) && is_thread(fields);
-    let thread = thread_at(fields);
+    let good = is_known(lead, invoked.good, returned.good) && thread < THREADS as u64;
     let op = invoked.op;
     let ret = returned.ret;
     Event {
         good,
-        thread,
+        thread: narrow(thread),
         op,
         ret,
     }
@@ -55,18 +56,6 @@ fn is_known(lead: u64, op: bool, ret: bool) -> bool {
         return ret;
     }
     lead == BOTH && op && ret
-}
-
-fn is_thread(fields: &[u64]) -> bool {
-    natural(fields, 0) < THREADS as u64
-}
-
-fn thread_at(fields: &[u64]) -> u32 {
-    let thread = natural(fields, 0);
-    if thread <= u32::MAX as u64 {
-        return thread as u32;
-    }
-    u32::MAX
 }
 
 // T, the event, Y L to the end of the line: the last two.

@@ -1,8 +1,7 @@
 // A line's numbers as what they stand for. Every function here takes any numbers, and a place past their
 // end reads as no number at all.
-use semantics::value::Maybe;
 
-// What a natural number is read as where there is none.
+// What a number is read as where there is none.
 pub const NONE: u64 = u64::MAX;
 
 // This many numbers; none where there are fewer.
@@ -32,47 +31,26 @@ pub fn natural(line: &[u64], at: usize) -> u64 {
     NONE
 }
 
-// The number at a place as a value; nothing where it is none.
-pub fn value(line: &[u64], at: usize) -> Maybe {
+// The number at a place as a value of 32 bits, the way a corpus file sends it: a line's numbers are kept so.
+pub fn value(line: &[u64], at: usize) -> u64 {
     if at < line.len() {
         let word = line[at];
-        return signed(word);
+        if fits(word) {
+            return word;
+        }
     }
-    Maybe::Nothing
+    NONE
 }
 
-// The number at a place as a value; 0 where it is none.
-pub fn value_or_zero(line: &[u64], at: usize) -> i32 {
-    match value(line, at) {
-        Maybe::Value(v) => v,
-        Maybe::Nothing => 0,
-    }
+// Whether a number is one of 32 bits.
+pub fn fits(number: u64) -> bool {
+    number <= u32::MAX as u64
 }
 
-pub fn has_value(line: &[u64], at: usize) -> bool {
-    match value(line, at) {
-        Maybe::Value(_) => true,
-        Maybe::Nothing => false,
+// A number in 32 bits; the largest where it has more.
+pub fn narrow(number: u64) -> u32 {
+    if number <= u32::MAX as u64 {
+        return number as u32;
     }
-}
-
-// Whether the number at a place is this value.
-pub fn is_value(v: i32, line: &[u64], at: usize) -> bool {
-    match value(line, at) {
-        Maybe::Nothing => false,
-        Maybe::Value(w) => v == w,
-    }
-}
-
-// A signed 32-bit number v is kept as 2v, or as -2v - 1 where it is below zero.
-fn signed(word: u64) -> Maybe {
-    if 4294967295 < word {
-        return Maybe::Nothing;
-    }
-    let half = (word / 2) as i32;
-    if word % 2 == 0 {
-        return Maybe::Value(half);
-    }
-    let below = !half;
-    Maybe::Value(below)
+    u32::MAX
 }

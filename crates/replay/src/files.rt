@@ -1,10 +1,15 @@
-// A call of the host on a file, made and compared with what the list says of it.
+// The list of calls on corpus files: each line is one call of the host, made and compared with what the list says
+// of it.
 use crate::came;
 use crate::came::judged;
 use crate::fields::first;
 use crate::fields::from;
 use crate::fields::natural;
 use crate::numbers::LONGEST;
+use crate::numbers::line_end;
+use crate::numbers::read;
+use crate::tally::COUNTS;
+use crate::tally::with_line;
 
 // The most zeros at the end of a file, room for the longest file, and for the longest buffer.
 const ZEROS: usize = 70000;
@@ -154,7 +159,7 @@ fn said_at(fields: &[u64]) -> &[u64] {
 }
 
 // MODEL HIGH LOW ROOM Z n f1 … fn R k a1 … ak
-pub fn compared(fields: &[u64]) -> u64 {
+fn compared(fields: &[u64]) -> u64 {
     let zeros = natural(fields, 4);
     let count = natural(fields, 5);
     if zeros <= ZEROS as u64 {
@@ -174,7 +179,7 @@ pub fn compared(fields: &[u64]) -> u64 {
 }
 
 // The group of a line: the model that is asked for, or 2 where there is none.
-pub fn group(fields: &[u64]) -> u64 {
+fn group(fields: &[u64]) -> u64 {
     let model = natural(fields, 0);
     if model <= 1 {
         return model;
@@ -183,7 +188,7 @@ pub fn group(fields: &[u64]) -> u64 {
 }
 
 // What is said of the call: 0 where a capture is judged, 1 where the file is refused, 2 where the call is.
-pub fn outcome(fields: &[u64]) -> u64 {
+fn outcome(fields: &[u64]) -> u64 {
     let said = said_at(from(fields, 4));
     if natural(said, 0) != 0 {
         return 2;
@@ -192,4 +197,19 @@ pub fn outcome(fields: &[u64]) -> u64 {
         return 1;
     }
     0
+}
+
+pub fn replay(text: &[u8]) -> [u64; COUNTS] {
+    let mut counts = [0; COUNTS];
+    let mut line = [0; LONGEST];
+    let mut at = 0;
+    while at < text.len() {
+        let end = line_end(text, at);
+        let count = read(text, at, &mut line);
+        let numbers = first(&line, count);
+        let came = compared(numbers);
+        with_line(&mut counts, came, group(numbers), outcome(numbers));
+        at = end;
+    }
+    counts
 }

@@ -5,7 +5,6 @@
 mod bare;
 mod calls;
 mod came;
-mod captures;
 mod codes;
 mod events;
 mod fields;
@@ -14,7 +13,6 @@ mod lists;
 mod numbers;
 mod objects;
 mod proposals;
-mod returns;
 mod sequences;
 mod tally;
 mod telling;
@@ -37,7 +35,7 @@ fn counted(list: u64, text: &[u8]) -> [u64; COUNTS] {
         return bare::replay(text);
     }
     if list == FILES {
-        return captures::replay(text);
+        return files::replay(text);
     }
     sequences::replay(list, text)
 }

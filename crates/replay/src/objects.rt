@@ -1,133 +1,121 @@
 // Objects of the lists: made from what a line says that they hold, and compared with it.
+use crate::fields::fits;
 use crate::fields::from;
-use crate::fields::is_value;
+use crate::fields::narrow;
 use crate::fields::natural;
 use crate::fields::value;
-use crate::fields::value_or_zero;
-use semantics::Kind;
-use semantics::Object;
-use semantics::sizes::FULL;
-use semantics::sizes::ROOM;
-use semantics::value::Maybe;
+use families::Object;
+use families::coded::Coded;
+use families::coded::StartForm;
+use families::codes::start_form;
+use families::codes::start_from;
+use families::placing::held_of;
+use families::sizes::FULL;
+use families::sizes::ROOM;
+use families::value::signed_of;
 
 pub struct Made {
     pub readable: bool,
     pub object: Object,
 }
 
-// F n v1 … vn: the object, and whether it holds just what is said.
-pub fn object_at(fields: &[u64]) -> Made {
-    let family = natural(fields, 0);
-    let held = from(fields, 1);
-    let values = from(held, 1);
-    if family == 0 {
-        return checked(Object::register(value_or_zero(values, 0)), held);
-    }
-    if family == 1 {
-        let stored = value(values, 0);
-        return checked(Object::write_once_register(stored), held);
-    }
-    if family == 2 {
-        let items = items_at(values);
-        return checked(Object::stack(items, depth_at(held)), held);
-    }
-    let object = Object::default_register();
-    Made {
-        readable: false,
-        object,
-    }
+// An object of that family which holds 0 or nothing.
+pub fn blank(family: u64) -> Object {
+    let coded = Coded {
+        number: narrow(family),
+        count: 0,
+        word: 0,
+    };
+    let items = [0; ROOM];
+    start_from(coded, items)
 }
 
-fn checked(object: Object, held: &[u64]) -> Made {
-    let readable = holds(object, held);
+// F n v1 … vn to the end of the line
+pub fn object_at(fields: &[u64]) -> Made {
+    object_of(natural(fields, 0), from(fields, 1))
+}
+
+// n v1 … vn to the end of the line: the object of that family which holds just these values.
+fn object_of(family: u64, held: &[u64]) -> Made {
+    let number = narrow(family);
+    let count = natural(held, 0);
+    let values = from(held, 1);
+    let readable = takes(start_form(number), count) && are_values(count, values);
+    let coded = Coded {
+        number,
+        count: narrow(count),
+        word: narrow(value(values, 0)),
+    };
+    let object = start_from(coded, items_at(values));
     Made { readable, object }
 }
 
-fn depth_at(held: &[u64]) -> u32 {
-    let depth = natural(held, 0);
-    if depth <= FULL as u64 {
-        return depth as u32;
+// Whether an object that starts so can hold so many values.
+fn takes(form: StartForm, count: u64) -> bool {
+    match form {
+        StartForm::Unknown => false,
+        StartForm::Number => count == 1,
+        StartForm::Flagged => count <= 1,
+        StartForm::Values => count <= FULL as u64,
+    }
+}
+
+// Whether these are so many values.
+fn are_values(count: u64, values: &[u64]) -> bool {
+    let mut i = 0;
+    while i < values.len() {
+        if fits(value(values, i)) {
+            i += 1;
+        } else {
+            return false;
+        }
+    }
+    values.len() as u64 == count
+}
+
+fn item_at(values: &[u64], place: usize) -> i32 {
+    if place < values.len() {
+        return signed_of(narrow(value(values, place)));
     }
     0
 }
 
-// A stack's storage: the values, then zeros.
+// The storage of what holds several values: the values, then zeros.
 fn items_at(values: &[u64]) -> [i32; ROOM] {
     let mut items = [0; ROOM];
     let mut i = 0;
     while i < ROOM {
-        let v = value_or_zero(values, i);
+        let v = item_at(values, i);
         items[i] = v;
         i += 1;
     }
     items
 }
 
-// n v1 … vn to the end of the line: whether the object holds these values and no others, and its storage
-// is zero elsewhere.
-pub fn holds(object: Object, held: &[u64]) -> bool {
-    let kind = object.kind;
-    let items = object.items;
-    let values = from(held, 1);
-    match kind {
-        Kind::Register(v) => {
-            if is_one(v, held) {
-                return items_hold(&items, 0, values);
-            }
-            false
-        }
-        Kind::WORegister(m) => {
-            if is_maybe(m, held) {
-                return items_hold(&items, 0, values);
-            }
-            false
-        }
-        Kind::Vec(depth) => {
-            if is_counted(depth as u64, held) {
-                return items_hold(&items, depth as usize, values);
-            }
-            false
-        }
-    }
+// n v1 … vn to the end of the line: whether the object of that family holds these values and no others, and its
+// storage is zero elsewhere.
+pub fn holds(object: Object, family: u64, held: &[u64]) -> bool {
+    let said = object_of(family, held);
+    said.readable && is_same(object, said.object)
 }
 
-// Whether this many values are said to be held, and stand there, up to a stack's room.
-fn is_counted(count: u64, held: &[u64]) -> bool {
-    if count <= FULL as u64 {
-        if natural(held, 0) == count {
-            return held.len() as u64 == count + 1;
-        }
-    }
-    false
+// Whether two objects of one family are the same.
+fn is_same(a: Object, b: Object) -> bool {
+    let kind = a.kind;
+    let other = b.kind;
+    let x = held_of(kind);
+    let y = held_of(other);
+    let items = a.items;
+    let others = b.items;
+    x.value == y.value && x.height == y.height && are_same(&items, &others)
 }
 
-fn is_one(v: i32, held: &[u64]) -> bool {
-    if is_counted(1, held) {
-        return is_value(v, held, 1);
-    }
-    false
-}
-
-fn is_maybe(m: Maybe, held: &[u64]) -> bool {
-    match m {
-        Maybe::Nothing => is_counted(0, held),
-        Maybe::Value(v) => is_one(v, held),
-    }
-}
-
-// Whether one place of the storage is right.
-fn is_item(item: i32, place: usize, depth: usize, values: &[u64]) -> bool {
-    if place < depth {
-        return is_value(item, values, place);
-    }
-    item == 0
-}
-
-fn items_hold(items: &[i32; ROOM], depth: usize, values: &[u64]) -> bool {
+fn are_same(a: &[i32; ROOM], b: &[i32; ROOM]) -> bool {
     let mut i = 0;
     while i < ROOM {
-        let item = items[i];
-        if is_item(item, i, depth, values) {
+        let item = a[i];
+        let other = b[i];
+        if item == other {
             i += 1;
         } else {
             return false;

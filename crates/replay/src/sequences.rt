@@ -17,13 +17,13 @@ use crate::lists::HISTORIES;
 use crate::numbers::LONGEST;
 use crate::numbers::line_end;
 use crate::numbers::read;
+use crate::objects::blank;
 use crate::objects::object_at;
 use crate::proposals;
 use crate::tally::COUNTS;
 use crate::tally::call_of;
 use crate::tally::with_line;
 use crate::verdicts;
-use semantics::Object;
 use testers::Answer;
 use testers::Answers;
 use testers::Testers;
@@ -64,7 +64,7 @@ fn fed(testers: Testers, family: u64, numbers: &[u64]) -> Answers {
     let event = event_at(lead, family, fields);
     let op = event.op;
     let ret = event.ret;
-    if family <= 2 && event.good {
+    if family != NONE && event.good {
         if lead == INVOKE {
             return testers.on_invoke(event.thread, op);
         }
@@ -148,7 +148,7 @@ fn is_asked(list: u64, numbers: &[u64]) -> bool {
 }
 
 fn asked(list: u64, testers: Testers, family: u64, fields: &[u64]) -> u64 {
-    if 2 < family {
+    if family == NONE {
         return came::UNREADABLE;
     }
     if list == HISTORIES {
@@ -186,7 +186,7 @@ fn call_at(list: u64, numbers: &[u64]) -> u64 {
 }
 
 fn nothing() -> Testers {
-    let new = Testers::new(Object::default_register());
+    let new = Testers::new(blank(0));
     new.testers
 }
 

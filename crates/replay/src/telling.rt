@@ -63,62 +63,40 @@ fn say_one(which: u64, first: &[u8], second: &[u8], third: &[u8]) {
     say(third);
 }
 
-fn say_family(group: u64) {
+// A family, or a model in the list of files.
+fn say_group(list: u64, group: u64) {
+    if list == FILES {
+        say_one(
+            group,
+            b"sequential consistency",
+            b"linearizability",
+            b"no model",
+        );
+        return;
+    }
     say_one(group, b"register", b"write-once register", b"stack");
 }
 
-fn say_model(group: u64) {
-    say_one(
-        group,
-        b"sequential consistency",
-        b"linearizability",
-        b"no model",
-    );
-}
-
-fn say_group(list: u64, group: u64) {
-    if list == FILES {
-        say_model(group);
+// What was called or, in the list of files, what the call came to.
+fn say_call(list: u64, call: u64) {
+    if list == OBJECTS {
+        say_one(call, b" invoke", b" is_valid_step", b" is_valid_history");
         return;
     }
-    say_family(group);
-}
-
-fn say_object_call(call: u64) {
-    say_one(call, b" invoke", b" is_valid_step", b" is_valid_history");
-}
-
-fn say_event(call: u64) {
-    say_one(call, b" on_invoke", b" on_return", b" on_invret");
-}
-
-fn say_judge(call: u64) {
+    if list == EVENTS {
+        say_one(call, b" on_invoke", b" on_return", b" on_invret");
+        return;
+    }
+    if list == FILES {
+        say_one(call, b" judged", b" files refused", b" calls refused");
+        return;
+    }
     say_one(
         call,
         b" sequential consistency",
         b" linearizability",
         b" other",
     );
-}
-
-fn say_outcome(call: u64) {
-    say_one(call, b" judged", b" files refused", b" calls refused");
-}
-
-fn say_call(list: u64, call: u64) {
-    if list == OBJECTS {
-        say_object_call(call);
-        return;
-    }
-    if list == EVENTS {
-        say_event(call);
-        return;
-    }
-    if list == FILES {
-        say_outcome(call);
-        return;
-    }
-    say_judge(call);
 }
 
 // How often a list starts anew, and what with; that of files does not.

@@ -2,19 +2,20 @@
 // that just covers the search, one that falls short of it by one attempt, and the largest.
 use crate::came;
 use crate::came::judged;
+use crate::codes::is_said;
 use crate::fields::first;
 use crate::fields::from;
 use crate::fields::natural;
-use crate::returns::is_said;
+use families::Ret;
+use families::codes::ret_coded;
+use families::no_ret;
+use families::sizes::OPERATIONS;
 use judging::answer::Answer;
 use judging::answer::NOBODY;
 use judging::answer::Placed;
 use judging::answer::number;
 use judging::linearizability;
 use judging::sequential_consistency;
-use semantics::Ret;
-use semantics::register::RegisterRet;
-use semantics::sizes::OPERATIONS;
 use testers::Testers;
 
 // The numbers of the verdicts in document 01.
@@ -143,17 +144,12 @@ fn is_placed(placed: Placed, somebody: bool, family: u64, fields: &[u64]) -> boo
         }
         return false;
     }
-    placed.thread == NOBODY && is_fixed(ret)
+    placed.thread == NOBODY && is_blank(ret)
 }
 
-// What stands behind an order: a register's WriteOk.
-fn is_fixed(ret: Ret) -> bool {
-    match ret {
-        Ret::Register(r) => match r {
-            RegisterRet::WriteOk => true,
-            RegisterRet::ReadOk(_) => false,
-        },
-        Ret::WORegister(_) => false,
-        Ret::Vec(_) => false,
-    }
+// What stands behind an order.
+fn is_blank(ret: Ret) -> bool {
+    let coded = ret_coded(ret);
+    let blank = ret_coded(no_ret());
+    coded.number == blank.number && coded.count == blank.count && coded.word == blank.word
 }

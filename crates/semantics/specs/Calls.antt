@@ -1,25 +1,15 @@
 -- What each call on a bare object hands back.
-use Prim.Native.Nat.{ℕ}
-use mathlib.Core.Bool.{Bool, true, false}
-use mathlib.Core.List.{List}
-use lib.ListN.{replicate}
-use lib.IntN.{ℤ, pos}
-use Rattle.semantics.specs.Value.{pick}
-use Rattle.semantics.specs.Sizes.{room}
-use Rattle.semantics.specs.Placing.{heldOf, kindOf, answerOf, rightOf, heldAfter, leavesOf}
-use Rattle.semantics.specs.Refusals.{shapeCheck, invokeCheck, stepCheck}
-use Rattle.semantics.specs.declared.value.Maybe.{Maybe}
-use Rattle.semantics.specs.declared.Kind.{Kind}
-use Rattle.semantics.specs.declared.Kind.the-variants.{Register, WORegister, Vec}
-use Rattle.semantics.specs.declared.Object.{Object}
-use Rattle.semantics.specs.declared.Op.{Op}
-use Rattle.semantics.specs.declared.Op.the-variants.{Register as ORegister, WORegister as OWORegister, Vec as OVec}
-use Rattle.semantics.specs.declared.Ret.{Ret}
-use Rattle.semantics.specs.declared.Ret.the-variants.{Register as RRegister, WORegister as RWORegister, Vec as RVec}
-use Rattle.semantics.specs.declared.vec.VecOp.the-variants.{Push, Pop, Len}
-use Rattle.semantics.specs.declared.vec.VecRet.the-variants.{PushOk, PopOk, LenOk}
-use Rattle.semantics.specs.declared.refusal.Check.{Check}
-use Rattle.semantics.specs.declared.refusal.Check.the-variants.{Clear, Refused}
+use mathlib.Core.Bool.{Bool}
+use Rattle.families.specs.Value.{pick}
+use Rattle.families.specs.Objects.{object}
+use Rattle.families.specs.Placing.{heldOf, kindOf, answerOf, rightOf, heldAfter, leavesOf, leavesWrong}
+use Rattle.families.specs.Refusals.{inOrder, opBelongs, retBelongs, shapeCheck, roomCheck, stepRoom}
+use Rattle.families.specs.declared.Kind.{Kind}
+use Rattle.families.specs.declared.Object.{Object}
+use Rattle.families.specs.declared.Op.{Op}
+use Rattle.families.specs.declared.Ret.{Ret}
+use Rattle.families.specs.declared.refusal.Check.{Check}
+use Rattle.families.specs.declared.refusal.Check.the-variants.{Clear, Refused}
 use Rattle.semantics.specs.declared.Answer.{Answer}
 use Rattle.semantics.specs.declared.Answer.the-variants.{Returned, Refused as ARefused}
 use Rattle.semantics.specs.declared.Invoked.{Invoked}
@@ -27,27 +17,22 @@ use Rattle.semantics.specs.declared.Said.{Said}
 use Rattle.semantics.specs.declared.Said.the-variants.{Yes, No, Refused as SRefused}
 use Rattle.semantics.specs.declared.Stepped.{Stepped}
 
--- constructors
+-- the refusals of a bare step, in their order: 9, 3, 7
 
-abbrev pub zeros : List ℤ
-zeros = replicate room (pos 0)
+unfoldable pub invokeCheck : Kind → Op → Check
+invokeCheck k op = inOrder (shapeCheck k) (inOrder (opBelongs k op) (roomCheck (heldOf k) op))
 
-abbrev pub object : Kind → List ℤ → Object
-object k is = record { kind = k; items = is }
+unfoldable pub stepCheck : Kind → Op → Ret → Check
+stepCheck k op ret =
+    inOrder (shapeCheck k) (inOrder (opBelongs k op) (inOrder (retBelongs k ret) (stepRoom (heldOf k) op ret)))
 
-unfoldable pub newRegister : ℤ → Object
-newRegister v = object (Register v) zeros
-
-unfoldable pub newOnce : Maybe → Object
-newOnce m = object (WORegister m) zeros
-
-unfoldable pub newStack : List ℤ → ℕ → Object
-newStack is d = object (Vec d) is
-
--- what an object answers to an operation of its family, and what is left
+-- what an object answers to an operation of its family, whether a return is right, and what is left
 
 unfoldable pub answerBy : Object → Op → Ret
 answerBy o op = answerOf (o .items) (heldOf (o .kind)) op
+
+abbrev pub rightBy : Object → Op → Ret → Bool
+rightBy o op ret = rightOf (o .items) (heldOf (o .kind)) op ret
 
 unfoldable pub leftBy : Object → Op → Object
 leftBy o op = object (kindOf (o .kind) (heldAfter (heldOf (o .kind)) op)) (leavesOf (o .items) (heldOf (o .kind)) op)
@@ -64,22 +49,8 @@ invokeBy Clear o op = invoked (Returned (answerBy o op)) (leftBy o op)
 unfoldable pub invokeOf : Object → Op → Invoked
 invokeOf o op = invokeBy (invokeCheck (o .kind) op) o op
 
--- `is_valid_step`: yes exactly for the return that `invoke` gives, and then the object is what `invoke` leaves;
--- after a no it is as it came, but for a Pop with a PopOk that is wrong, which still pops
-
-unfoldable pub isPop : Op → Bool
-isPop (ORegister p) = false
-isPop (OWORegister p) = false
-isPop (OVec (Push v)) = false
-isPop (OVec Pop) = true
-isPop (OVec Len) = false
-
-unfoldable pub isPopped : Ret → Bool
-isPopped (RRegister q) = false
-isPopped (RWORegister q) = false
-isPopped (RVec PushOk) = false
-isPopped (RVec (PopOk m)) = true
-isPopped (RVec (LenOk n)) = false
+-- `is_valid_step`: yes exactly for a right return, and then the object is what `invoke` leaves; after a no it is as it
+-- came, but for a Pop with a PopOk that is wrong, which still pops
 
 abbrev pub stepped : Said → Object → Stepped
 stepped s o = record { said = s; object = o }
@@ -87,8 +58,7 @@ stepped s o = record { said = s; object = o }
 abbrev pub stepBy : Check → Object → Op → Ret → Stepped
 stepBy (Refused r) o op ret = stepped (SRefused r) o
 stepBy Clear o op ret =
-    pick (rightOf (o .items) (heldOf (o .kind)) op ret) (stepped Yes (leftBy o op))
-    (pick (isPop op) (pick (isPopped ret) (stepped No (leftBy o op)) (stepped No o)) (stepped No o))
+    pick (rightBy o op ret) (stepped Yes (leftBy o op)) (pick (leavesWrong op ret) (stepped No (leftBy o op)) (stepped No o))
 
 unfoldable pub stepOf : Object → Op → Ret → Stepped
 stepOf o op ret = stepBy (stepCheck (o .kind) op ret) o op ret

@@ -1,14 +1,14 @@
 -- A sequential history: its steps are taken in order up to the first no or refusal, and the object reached there is kept.
 use mathlib.Core.Path.{_≡_, refl}
 use mathlib.Core.List.{List, [], _∷_}
-use Rattle.semantics.specs.Refusals.{shapeCheck}
+use Rattle.families.specs.Refusals.{shapeCheck}
 use Rattle.semantics.specs.Calls.{stepped, stepOf, begunBy, begunOf, thenOf}
-use Rattle.semantics.specs.declared.Object.{Object}
-use Rattle.semantics.specs.declared.Op.{Op}
-use Rattle.semantics.specs.declared.Ret.{Ret}
-use Rattle.semantics.specs.declared.refusal.Refusal.{Refusal}
-use Rattle.semantics.specs.declared.refusal.Check.{Check}
-use Rattle.semantics.specs.declared.refusal.Check.the-variants.{Clear, Refused as Out}
+use Rattle.families.specs.declared.Object.{Object}
+use Rattle.families.specs.declared.Op.{Op}
+use Rattle.families.specs.declared.Ret.{Ret}
+use Rattle.families.specs.declared.refusal.Refusal.{Refusal}
+use Rattle.families.specs.declared.refusal.Check.{Check}
+use Rattle.families.specs.declared.refusal.Check.the-variants.{Clear, Refused as Out}
 use Rattle.semantics.specs.declared.Said.{Said}
 use Rattle.semantics.specs.declared.Said.the-variants.{Yes, No, Refused}
 use Rattle.semantics.specs.declared.Stepped.{Stepped}

@@ -1,107 +1,18 @@
-// The reference objects: a register, a write-once register and a stack, what each operation answers and
-// leaves, and whether a return, or a sequential history of them, is right.
-pub mod family;
-pub mod placing;
-pub mod refusal;
-pub mod register;
-pub mod sizes;
-pub mod value;
-pub mod vec;
-pub mod write_once_register;
+// The reference objects, bare: what each operation answers and leaves, and whether a return, or a sequential history
+// of them, is right. What is particular to a family stands in `families`.
+mod refusal;
 
-use refusal::Check;
-use refusal::Refusal;
-use register::RegisterOp;
-use register::RegisterRet;
-use sizes::ROOM;
-use value::Maybe;
-use vec::VecOp;
-use vec::VecRet;
-use write_once_register::WORegisterOp;
-use write_once_register::WORegisterRet;
+use families::Object;
+use families::Op;
+use families::Ret;
+use families::placing;
+use families::refusal::Check;
+use families::refusal::Refusal;
+use families::refusal::check_shape;
+use refusal::check_invoke;
+use refusal::check_step;
 ghost use mathlib.Core.Path.{_≡_};
-ghost use lib.IntN.{pos};
-ghost use Rattle.semantics.specs.Calls.{zeros, newRegister, newOnce, newStack, answerBy, leftBy, isPop, isPopped, invokeOf, stepOf, begunOf, thenOf};
-
-// An operation names its family and, inside it, its own operation.
-pub enum Op {
-    Register(RegisterOp),
-    WORegister(WORegisterOp),
-    Vec(VecOp),
-}
-
-// A return likewise.
-pub enum Ret {
-    Register(RegisterRet),
-    WORegister(WORegisterRet),
-    Vec(VecRet),
-}
-
-// What an object is and, but for a stack's items, what it holds: a register its value, a write-once
-// register nothing or a value, a stack its depth.
-pub enum Kind {
-    Register(i32),
-    WORegister(Maybe),
-    Vec(u32),
-}
-
-// An object; the items are a stack's storage, bottom first.
-pub struct Object {
-    pub kind: Kind,
-    pub items: [i32; ROOM],
-}
-
-impl Object {
-    // A register that holds a value; by default 0.
-    pub fn register(value: i32) -> Self
-        ensures { λ r. ⌜ r ≡ newRegister value ⌝ }
-    {
-        let kind = Kind::Register(value);
-        Self {
-            kind,
-            items: [0; ROOM],
-        }
-    }
-
-    // A write-once register; by default it holds nothing.
-    pub fn write_once_register(stored: Maybe) -> Self
-        ensures { λ r. ⌜ r ≡ newOnce stored ⌝ }
-    {
-        let kind = Kind::WORegister(stored);
-        Self {
-            kind,
-            items: [0; ROOM],
-        }
-    }
-
-    // A stack of the first `depth` items, bottom first.
-    pub fn stack(items: [i32; ROOM], depth: u32) -> Self
-        ensures { λ r. ⌜ r ≡ newStack items depth ⌝ }
-    {
-        let kind = Kind::Vec(depth);
-        Self { kind, items }
-    }
-
-    pub fn default_register() -> Self
-        ensures { λ r. ⌜ r ≡ newRegister (pos 0) ⌝ }
-    {
-        Object::register(0)
-    }
-
-    pub fn default_write_once_register() -> Self
-        ensures { λ r. ⌜ r ≡ newOnce Maybe.Nothing ⌝ }
-    {
-        let stored = Maybe::Nothing;
-        Object::write_once_register(stored)
-    }
-
-    pub fn default_stack() -> Self
-        ensures { λ r. ⌜ r ≡ newStack zeros 0 ⌝ }
-    {
-        let items = [0; ROOM];
-        Object::stack(items, 0)
-    }
-}
+ghost use Rattle.semantics.specs.Calls.{answerBy, leftBy, invokeOf, stepOf, begunOf, thenOf};
 
 pub enum Answer {
     Returned(Ret),
@@ -152,7 +63,7 @@ pub fn invoke(object: Object, op: Op) -> Invoked
     ensures { λ r. ⌜ r ≡ invokeOf object op ⌝ }
 {
     let kind = object.kind;
-    match refusal::check_invoke(kind, op) {
+    match check_invoke(kind, op) {
         Check::Refused(refusal) => Invoked {
             answer: Answer::Refused(refusal),
             object,
@@ -168,40 +79,13 @@ pub fn invoke(object: Object, op: Op) -> Invoked
     }
 }
 
-fn is_pop(op: Op) -> bool
-    ensures { λ r. ⌜ r ≡ isPop op ⌝ }
-{
-    match op {
-        Op::Register(_) => false,
-        Op::WORegister(_) => false,
-        Op::Vec(p) => match p {
-            VecOp::Push(_) => false,
-            VecOp::Pop => true,
-            VecOp::Len => false,
-        },
-    }
-}
-
-fn is_popped(ret: Ret) -> bool
-    ensures { λ r. ⌜ r ≡ isPopped ret ⌝ }
-{
-    match ret {
-        Ret::Register(_) => false,
-        Ret::WORegister(_) => false,
-        Ret::Vec(q) => match q {
-            VecRet::PushOk => false,
-            VecRet::PopOk(_) => true,
-            VecRet::LenOk(_) => false,
-        },
-    }
-}
-
-// Whether invoking the operation would give that return. A wrong Pop pops all the same, as in the crate.
+// Whether the return is right; in these families it is where invoking the operation would give it. A wrong Pop pops
+// all the same, as in the crate.
 pub fn is_valid_step(object: Object, op: Op, ret: Ret) -> Stepped
     ensures { λ r. ⌜ r ≡ stepOf object op ret ⌝ }
 {
     let kind = object.kind;
-    match refusal::check_step(kind, op, ret) {
+    match check_step(kind, op, ret) {
         Check::Refused(refusal) => Stepped {
             said: Said::Refused(refusal),
             object,
@@ -216,14 +100,12 @@ pub fn is_valid_step(object: Object, op: Op, ret: Ret) -> Stepped
                     object: moved,
                 };
             }
-            if is_pop(op) {
-                if is_popped(ret) {
-                    let popped = left_by(object, op);
-                    return Stepped {
-                        said: Said::No,
-                        object: popped,
-                    };
-                }
+            if placing::leaves_wrong(op, ret) {
+                let popped = left_by(object, op);
+                return Stepped {
+                    said: Said::No,
+                    object: popped,
+                };
             }
             Stepped {
                 said: Said::No,
@@ -239,7 +121,7 @@ pub fn is_valid_history(object: Object) -> Stepped
     ensures { λ r. ⌜ r ≡ begunOf object ⌝ }
 {
     let kind = object.kind;
-    match refusal::check_shape(kind) {
+    match check_shape(kind) {
         Check::Refused(refusal) => Stepped {
             said: Said::Refused(refusal),
             object,

@@ -1,15 +1,15 @@
 // Both testers, fed the same events, for the programs that compare them with what is known of the events.
+use families::Object;
+use families::Op;
+use families::Ret;
 use recording::consistency_tester::made_number;
 use recording::consistency_tester::number;
 use recording::linearizability;
 use recording::linearizability::LinearizabilityTester;
 use recording::sequential_consistency;
 use recording::sequential_consistency::SequentialConsistencyTester;
-use semantics::Object;
-use semantics::Op;
-use semantics::Ret;
 ghost use mathlib.Core.Path.{_≡_};
-ghost use Rattle.testers.specs.Calls.{joinedOf, recordedOf, newOf, invokeOf, returnOf, invretOf};
+ghost use Rattle.testers.specs.PairedCalls.{joinedOf, recordedOf, newOf, invokeOf, returnOf, invretOf};
 
 pub struct Testers {
     pub linearizability: LinearizabilityTester,

@@ -1,110 +1,84 @@
 // The events of a history that is judged: two bytes each. Of the first, bit 0 says invoke or return, the
 // next three the thread, the rest the number of the operation or of the return in its family; the second is
-// its value. A PopOk of 0 is one of nothing.
-use semantics::Object;
-use semantics::Op;
-use semantics::Ret;
-use semantics::register::RegisterOp;
-use semantics::register::RegisterRet;
-use semantics::value::Maybe;
-use semantics::vec::VecOp;
-use semantics::vec::VecRet;
+// its value. A return of 0 that may carry nothing carries nothing.
+use families::Kind;
+use families::Object;
+use families::coded::Coded;
+use families::codes::op_from;
+use families::codes::ret_from;
+use families::codes::start_from;
+use families::sizes::ROOM;
 use testers::Answers;
 use testers::Testers;
 
-fn register_op(number: u8, value: u8) -> Op {
-    if number == 0 {
-        let write = RegisterOp::Write(value as i32);
-        return Op::Register(write);
-    }
-    let read = RegisterOp::Read;
-    Op::Register(read)
+// The objects that are timed, by their numbers.
+pub const REGISTER: u32 = 0;
+
+pub const STACK: u32 = 2;
+
+// The number of the return that carries a length, the only one of these events that is sent as it is.
+const LENGTH: u8 = 2;
+
+// The object of that number at a value; one that holds several values is empty.
+pub fn object(number: u32, value: u8) -> Object {
+    let coded = Coded {
+        number,
+        count: 0,
+        word: value as u32 * 2,
+    };
+    let items = [0; ROOM];
+    start_from(coded, items)
 }
 
-fn register_ret(number: u8, value: u8) -> Ret {
-    if number == 0 {
-        let ok = RegisterRet::WriteOk;
-        return Ret::Register(ok);
-    }
-    let ok = RegisterRet::ReadOk(value as i32);
-    Ret::Register(ok)
-}
-
-fn stack_op(number: u8, value: u8) -> Op {
-    if number == 0 {
-        let push = VecOp::Push(value as i32);
-        return Op::Vec(push);
-    }
-    if number == 1 {
-        let pop = VecOp::Pop;
-        return Op::Vec(pop);
-    }
-    let len = VecOp::Len;
-    Op::Vec(len)
-}
-
-fn popped(value: u8) -> Maybe {
+// The operation or the return of that number with a value.
+pub fn coded(number: u8, value: u8) -> Coded {
+    let number = number as u32;
     if value == 0 {
-        return Maybe::Nothing;
+        return Coded {
+            number,
+            count: 0,
+            word: 0,
+        };
     }
-    Maybe::Value(value as i32)
+    Coded {
+        number,
+        count: 1,
+        word: value as u32 * 2,
+    }
 }
 
-fn stack_ret(number: u8, value: u8) -> Ret {
-    if number == 0 {
-        let ok = VecRet::PushOk;
-        return Ret::Vec(ok);
+fn returned(number: u8, value: u8) -> Coded {
+    if number == LENGTH {
+        return Coded {
+            number: number as u32,
+            count: 1,
+            word: value as u32,
+        };
     }
-    if number == 1 {
-        let m = popped(value);
-        let ok = VecRet::PopOk(m);
-        return Ret::Vec(ok);
-    }
-    let ok = VecRet::LenOk(value as u32);
-    Ret::Vec(ok)
+    coded(number, value)
 }
 
-// The register at 0, or the empty stack.
-fn start(is_stack: bool) -> Object {
-    if is_stack {
-        return Object::default_stack();
-    }
-    Object::register(0)
-}
-
-fn invoked(testers: Testers, is_stack: bool, thread: u32, number: u8, value: u8) -> Answers {
-    if is_stack {
-        return testers.on_invoke(thread, stack_op(number, value));
-    }
-    testers.on_invoke(thread, register_op(number, value))
-}
-
-fn returned(testers: Testers, is_stack: bool, thread: u32, number: u8, value: u8) -> Answers {
-    if is_stack {
-        return testers.on_return(thread, stack_ret(number, value));
-    }
-    testers.on_return(thread, register_ret(number, value))
-}
-
-fn after(testers: Testers, is_stack: bool, first: u8, value: u8) -> Answers {
+fn after(testers: Testers, kind: Kind, first: u8, value: u8) -> Answers {
     let thread = (first / 2 % 8) as u32;
     let number = first / 16;
     if first % 2 == 0 {
-        return invoked(testers, is_stack, thread, number, value);
+        return testers.on_invoke(thread, op_from(kind, coded(number, value)));
     }
-    returned(testers, is_stack, thread, number, value)
+    testers.on_return(thread, ret_from(kind, returned(number, value)))
 }
 
-// Both testers of a fresh object, fed these events.
-pub fn fed(is_stack: bool, events: &[u8]) -> Testers {
-    let begun = Testers::new(start(is_stack));
+// Both testers of the object of that number, fed these events.
+pub fn fed(number: u32, events: &[u8]) -> Testers {
+    let start = object(number, 0);
+    let kind = start.kind;
+    let begun = Testers::new(start);
     let mut testers = begun.testers;
     let mut i = 0;
     while i < events.len() {
         let first = events[i];
         i += 1;
         if i < events.len() {
-            let answers = after(testers, is_stack, first, events[i]);
+            let answers = after(testers, kind, first, events[i]);
             testers = answers.testers;
             i += 1;
         }

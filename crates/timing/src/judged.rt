@@ -1,4 +1,6 @@
 // Judging a history again and again.
+use crate::events::REGISTER;
+use crate::events::STACK;
 use crate::events::fed;
 use judging::answer::Answer;
 use judging::answer::number;
@@ -38,6 +40,14 @@ fn sequential(tester: SequentialConsistencyTester, budget: u64, times: u64) -> u
     sum
 }
 
+// The number of the object.
+fn object_of(stack: u32) -> u32 {
+    if stack == 0 {
+        return REGISTER;
+    }
+    STACK
+}
+
 // Feeds the events to fresh testers, and has the model's tester judged this many times: the sum of what
 // the answers tell. `stack`: 0 for the register. `model`: 0 for sequential consistency.
 #[no_mangle]
@@ -48,7 +58,7 @@ pub extern "C" fn timing_judge(
     budget: u64,
     times: u64,
 ) -> u64 {
-    let testers = fed(stack != 0, events);
+    let testers = fed(object_of(stack), events);
     if model == 0 {
         return sequential(testers.sequential, budget, times);
     }

@@ -3,42 +3,41 @@
 mod events;
 mod judged;
 
+use events::REGISTER;
+use events::coded;
+use events::object;
+use families::Kind;
+use families::Op;
+use families::Ret;
+use families::codes::op_from;
+use families::codes::ret_from;
 use recording::consistency_tester::number;
 use recording::linearizability::After;
 use recording::linearizability::LinearizabilityTester;
-use semantics::Object;
-use semantics::Op;
-use semantics::Ret;
-use semantics::register::RegisterOp;
-use semantics::register::RegisterRet;
 
 // An event is a byte: bit 0 says invoke or return, the next three the thread, the rest a value. The
-// operation is Read at 0 and else Write, the return WriteOk at 0 and else ReadOk.
-fn op_of(value: u8) -> Op {
+// operation is Read, number 1, at 0 and else Write, the return WriteOk at 0 and else ReadOk, number 1.
+fn op_of(kind: Kind, value: u8) -> Op {
     if value == 0 {
-        let read = RegisterOp::Read;
-        return Op::Register(read);
+        return op_from(kind, coded(1, 0));
     }
-    let write = RegisterOp::Write(value as i32);
-    Op::Register(write)
+    op_from(kind, coded(0, value))
 }
 
-fn ret_of(value: u8) -> Ret {
+fn ret_of(kind: Kind, value: u8) -> Ret {
     if value == 0 {
-        let ok = RegisterRet::WriteOk;
-        return Ret::Register(ok);
+        return ret_from(kind, coded(0, 0));
     }
-    let ok = RegisterRet::ReadOk(value as i32);
-    Ret::Register(ok)
+    ret_from(kind, coded(1, value))
 }
 
-fn after(tester: LinearizabilityTester, event: u8) -> After {
+fn after(tester: LinearizabilityTester, kind: Kind, event: u8) -> After {
     let thread = (event / 2 % 8) as u32;
     let value = event / 16;
     if event % 2 == 0 {
-        return tester.on_invoke(thread, op_of(value));
+        return tester.on_invoke(thread, op_of(kind, value));
     }
-    tester.on_return(thread, ret_of(value))
+    tester.on_return(thread, ret_of(kind, value))
 }
 
 // A tester that has been fed, and the sum of the numbers that it answered.
@@ -47,12 +46,12 @@ struct Fed {
     tester: LinearizabilityTester,
 }
 
-fn feed(tester: LinearizabilityTester, events: &[u8]) -> Fed {
+fn feed(tester: LinearizabilityTester, kind: Kind, events: &[u8]) -> Fed {
     let mut tester = tester;
     let mut sum = 0;
     let mut i = 0;
     while i < events.len() {
-        let after = after(tester, events[i]);
+        let after = after(tester, kind, events[i]);
         let recorded = after.recorded;
         sum = std::num::wrapping_add_u64(sum, number(recorded) as u64);
         tester = after.tester;
@@ -65,14 +64,16 @@ fn feed(tester: LinearizabilityTester, events: &[u8]) -> Fed {
 // answer sums what the events were answered and what the testers held after them.
 #[no_mangle]
 pub extern "C" fn timing_feed(before: &[u8], events: &[u8], times: u64) -> u64 {
-    let new = LinearizabilityTester::new(Object::register(65));
+    let object = object(REGISTER, 65);
+    let kind = object.kind;
+    let new = LinearizabilityTester::new(object);
     let fresh = new.tester;
-    let fed = feed(fresh, before);
+    let fed = feed(fresh, kind, before);
     let start = fed.tester;
     let mut sum = 0;
     let mut left = times;
     while left > 0 {
-        let fed = feed(start, events);
+        let fed = feed(start, kind, events);
         let tester = fed.tester;
         let history = tester.history;
         sum = std::num::wrapping_add_u64(sum, fed.sum);

@@ -5,24 +5,25 @@ use mathlib.Core.Bool.{true, false}
 use mathlib.Core.List.{List, [], _∷_, map}
 use lib.ListN.{length, replicate}
 use Rattle.history.specs.Events.{Event, Events, invoked, returned}
-use Rattle.semantics.specs.Families.{families}
-use Rattle.recording.specs.declared.consistency_tester.Recorded.the-variants.{AlreadyInvalid}
-use Rattle.recording.specs.Events.{numberOf, isTaken}
-use Rattle.reading.specs.Models.{Model}
-use Rattle.reading.specs.Inputs.{give, feed, drawn}
-use Rattle.reading.specs.Meaning.{Means}
+use Rattle.families.specs.Families.{families}
+use Rattle.recording.specs.declared.consistency_tester.Recorded.the-variants.{Refused}
+use Rattle.recording.specs.declared.consistency_tester.Reason.the-variants.{AlreadyInvalid}
+use Rattle.recording.specs.EventSteps.{reasonNumber, numberOf, isTaken, breaks}
+use Rattle.recording_meaning.specs.Models.{Model}
+use Rattle.recording_meaning.specs.Inputs.{give, feed, drawn}
+use Rattle.recording_meaning.specs.Meaning.{Means}
 
 module _ (M : Model) (W : Means M) (s : M .Tester) (sized : M .Lengths s) (shaped : M .shaped s ≡ true) (off : M .history s .valid ≡ false) where
-  ignored : (v : Event families) → (give M s v .0 ≡ AlreadyInvalid) × (give M s v .1 ≡ s)
-  unfolding isTaken
+  ignored : (v : Event families) → (give M s v .0 ≡ Refused AlreadyInvalid) × (give M s v .1 ≡ s)
+  unfolding isTaken breaks
   ignored (invoked t op) =
-      let e = W .invoke-number s t op AlreadyInvalid .1 (shaped, off) in
+      let e = W .invoke-number s t op (Refused AlreadyInvalid) .1 (shaped, off) in
       (e, W .invoke-rows s sized shaped t op .refused (rw e) (rw e))
   ignored (returned t ret) =
-      let e = W .return-number s t ret AlreadyInvalid .1 (shaped, off) in
+      let e = W .return-number s t ret (Refused AlreadyInvalid) .1 (shaped, off) in
       (e, W .return-rows s sized shaped t ret .refused (rw e) (rw e))
 
   pub all-ignored : (l : Events families) → (map numberOf (drawn M s l) ≡ replicate (length l) 1) × (feed M s l ≡ s)
-  unfolding numberOf
+  unfolding numberOf reasonNumber
   all-ignored [] = (refl, refl)
   all-ignored (v ∷ l) = let g = ignored v in rw (g .0, g .1) (let e = all-ignored l in (ap (λ (ns : List ℕ). 1 ∷ ns) (e .0), e .1))

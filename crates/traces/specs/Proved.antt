@@ -4,15 +4,17 @@ use mathlib.Core.Bool.{true, false}
 use mathlib.Core.List.{[], _++_}
 use lib.ListN.{length, replicate}
 use Rattle.history.specs.Events.{Events}
-use Rattle.semantics.specs.Value.{eqZ, sameMaybe}
-use Rattle.semantics.specs.Register.{registerAnswer, registerAfter, sameRegisterRet}
-use Rattle.semantics.specs.WriteOnce.{writes, writeAnswer, onceAnswer, onceAfter, sameOnceRet}
-use Rattle.semantics.specs.Stack.{stackAnswer, stackAfter, sameVecRet, heldValues}
-use Rattle.semantics.specs.Families.{families, answers, after, sameRet}
-use Rattle.semantics.specs.Family.{familyOf, opFamily, retFamily}
-use Rattle.semantics.specs.Refusals.{depthOf}
-use Rattle.semantics.specs.Calls.{newRegister, newOnce, newStack}
-use Rattle.semantics.specs.Meaning.{stateOf}
+use Rattle.families.specs.Value.{zigzag, eqZ}
+use Rattle.families.specs.Coded.{maybeCoded, sameCoded}
+use Rattle.families.specs.Register.{registerAnswer, registerAfter, registerRetCoded}
+use Rattle.families.specs.WriteOnce.{writes, writeAnswer, onceAnswer, onceAfter, onceRetCoded}
+use Rattle.families.specs.Stack.{stackAnswer, stackAfter, stackRetCoded, depthCheck, lowCheck, heldValues}
+use Rattle.families.specs.Families.{families, answers, right, after, sameRet}
+use Rattle.families.specs.Codes.{retCoded}
+use Rattle.families.specs.Family.{familyOf, opFamily, retFamily, familyNumber}
+use Rattle.families.specs.Refusals.{numberOf as refusalNumber, familyCheck, opBelongs, retBelongs, isClear, startCheck, shapeCheck, sizeCheck, inOrder}
+use Rattle.families.specs.Objects.{newRegister, newOnce, newStack}
+use Rattle.families.specs.States.{stateOf}
 use Rattle.recording.specs.Record.{fresh, isPending, flyingBy, flyingFrom, findFlying}
 use Rattle.recording.specs.Shape.{
   doneBy,
@@ -30,7 +32,7 @@ use Rattle.recording.specs.Shape.{
   notesFitFrom,
   notesShaped,
 }
-use Rattle.recording.specs.Events.{numberOf, isTaken, madeOf, begunOf, invokeOf, returnOf, sizeOf}
+use Rattle.recording.specs.EventSteps.{reasonNumber, numberOf, isTaken, breaks, validAfter, begunOf, invokeOf, returnOf, sizeOf}
 use Rattle.recording.specs.Testers.{
   newSequential,
   sequentialInvoke,
@@ -42,11 +44,11 @@ use Rattle.recording.specs.Testers.{
   linearizabilityReturn,
   linearizabilityLen,
 }
-use Rattle.reading.specs.Reading.{rowsOf, notesOf}
-use Rattle.reading.specs.Models.{Model, sequentialModel, linearizabilityModel}
-use Rattle.reading.specs.Inputs.{feed}
-use Rattle.reading.specs.Meaning.{Means}
-use Rattle.reading.specs.Meant.{sequential-meaning, linearizability-meaning}
+use Rattle.recording_meaning.specs.Reading.{rowsOf, notesOf}
+use Rattle.recording_meaning.specs.Models.{Model, sequentialModel, linearizabilityModel}
+use Rattle.recording_meaning.specs.Inputs.{feed}
+use Rattle.recording_meaning.specs.Meaning.{Means}
+use Rattle.recording_meaning.specs.Meant.{sequential-meaning, linearizability-meaning}
 use Rattle.judging.specs.declared.answer.Verdict.the-variants.{Invalid}
 use Rattle.judging.specs.Answers.{withoutOrder, toldOf, judgedOf, judgeOf}
 use Rattle.traces.specs.Traces.{Expectation, Outcome, expected, found, AllHold, trace-10, covers, expect, traces}
@@ -69,10 +71,10 @@ module _ (M : Model) where
 
 -- The one claim over the list.
 pub all-hold : (later : Events families) → AllHold (traces later)
-unfolding eqZ sameMaybe registerAnswer registerAfter sameRegisterRet writes writeAnswer onceAnswer onceAfter sameOnceRet stackAnswer stackAfter
-    sameVecRet heldValues answers after sameRet familyOf opFamily retFamily depthOf newRegister newOnce newStack stateOf fresh isPending flyingBy
+unfolding zigzag eqZ maybeCoded sameCoded registerAnswer registerAfter registerRetCoded writes writeAnswer onceAnswer onceAfter onceRetCoded stackAnswer stackAfter
+    stackRetCoded depthCheck lowCheck heldValues retCoded answers right after sameRet refusalNumber familyOf opFamily retFamily familyNumber familyCheck opBelongs retBelongs isClear startCheck shapeCheck sizeCheck inOrder newRegister newOnce newStack stateOf fresh isPending flyingBy
     flyingFrom findFlying doneBy countDone notable allBelow outcomeFits operationFits operationsFit noneOf flyingLast countsRight shapeOf notesFit
-    notesFitFrom notesShaped numberOf isTaken madeOf begunOf invokeOf returnOf sizeOf newSequential sequentialInvoke sequentialReturn sequentialLen
+    notesFitFrom notesShaped reasonNumber numberOf isTaken breaks validAfter begunOf invokeOf returnOf sizeOf newSequential sequentialInvoke sequentialReturn sequentialLen
     newLinearizability notesWith linearizabilityInvoke linearizabilityReturn linearizabilityLen rowsOf notesOf withoutOrder toldOf judgedOf judgeOf
 all-hold later =
     rw (

@@ -5,23 +5,23 @@ use mathlib.Core.List.{List, [], _∷_, _++_, map}
 use lib.ListN.{length, replicate}
 use lib.IntN.{pos}
 use Rattle.history.specs.Events.{Events, invoked, returned}
-use Rattle.semantics.specs.Calls.{zeros, newRegister, newOnce, newStack}
-use Rattle.semantics.specs.Families.{families}
-use Rattle.semantics.specs.declared.value.Maybe.the-variants.{Nothing}
-use Rattle.semantics.specs.declared.Object.{Object}
-use Rattle.semantics.specs.declared.Op.{Op}
-use Rattle.semantics.specs.declared.Op.the-variants.{Register as ORegister, WORegister as OWORegister, Vec as OVec}
-use Rattle.semantics.specs.declared.Ret.{Ret}
-use Rattle.semantics.specs.declared.Ret.the-variants.{Register as RRegister, WORegister as RWORegister, Vec as RVec}
-use Rattle.semantics.specs.declared.register.RegisterOp.the-variants.{Write, Read}
-use Rattle.semantics.specs.declared.register.RegisterRet.the-variants.{WriteOk, ReadOk}
-use Rattle.semantics.specs.declared.write_once_register.WORegisterOp.the-variants.{Write as OnceWrite}
-use Rattle.semantics.specs.declared.write_once_register.WORegisterRet.the-variants.{WriteOk as OnceWriteOk}
-use Rattle.semantics.specs.declared.vec.VecOp.the-variants.{Push, Pop}
-use Rattle.semantics.specs.declared.vec.VecRet.the-variants.{PushOk, PopOk}
-use Rattle.recording.specs.Events.{numberOf}
-use Rattle.reading.specs.Models.{Model, sequentialModel, linearizabilityModel}
-use Rattle.reading.specs.Inputs.{invocations-in, feed, drawn}
+use Rattle.families.specs.Objects.{zeros, newRegister, newOnce, newStack}
+use Rattle.families.specs.Families.{families}
+use Rattle.families.specs.declared.value.Maybe.the-variants.{Nothing}
+use Rattle.families.specs.declared.Object.{Object}
+use Rattle.families.specs.declared.Op.{Op}
+use Rattle.families.specs.declared.Op.the-variants.{Register as ORegister, WORegister as OWORegister, Vec as OVec}
+use Rattle.families.specs.declared.Ret.{Ret}
+use Rattle.families.specs.declared.Ret.the-variants.{Register as RRegister, WORegister as RWORegister, Vec as RVec}
+use Rattle.families.specs.declared.register.RegisterOp.the-variants.{Write, Read}
+use Rattle.families.specs.declared.register.RegisterRet.the-variants.{WriteOk, ReadOk}
+use Rattle.families.specs.declared.write_once_register.WORegisterOp.the-variants.{Write as OnceWrite}
+use Rattle.families.specs.declared.write_once_register.WORegisterRet.the-variants.{WriteOk as OnceWriteOk}
+use Rattle.families.specs.declared.vec.VecOp.the-variants.{Push, Pop}
+use Rattle.families.specs.declared.vec.VecRet.the-variants.{PushOk, PopOk}
+use Rattle.recording.specs.EventSteps.{numberOf}
+use Rattle.recording_meaning.specs.Models.{Model, sequentialModel, linearizabilityModel}
+use Rattle.recording_meaning.specs.Inputs.{invocations-in, feed, drawn}
 use Rattle.judging.specs.declared.answer.Answer.{Answer}
 use Rattle.judging.specs.declared.answer.Placed.{Placed}
 use Rattle.judging.specs.declared.answer.Verdict.{Verdict}

@@ -1,143 +1,61 @@
-// The calls that an event is, on testers of a family.
-use crate::events::What;
+// The calls that an event is, on testers of an object.
+use crate::events::invokes;
+use crate::events::op_of;
+use crate::events::ret_of;
+use crate::events::returns;
 use crate::events::thread_of;
-use crate::events::value_of;
-use crate::events::what_of;
-use semantics::Object;
-use semantics::Op;
-use semantics::Ret;
-use semantics::register::RegisterOp;
-use semantics::register::RegisterRet;
-use semantics::value::Maybe;
-use semantics::vec::VecOp;
-use semantics::vec::VecRet;
-use semantics::write_once_register::WORegisterOp;
-use semantics::write_once_register::WORegisterRet;
+use families::Kind;
+use families::Object;
+use families::coded::Coded;
+use families::codes::op_from;
+use families::codes::ret_from;
+use families::codes::start_from;
+use families::sizes::ROOM;
 use testers::Answers;
 use testers::Testers;
 
-// The register at 65, the write-once register that holds nothing, the empty stack.
-pub enum Start {
-    Register,
-    WriteOnce,
-    Stack,
+// The objects of the traces, by their numbers: the register at 65, the write-once register that holds nothing, the
+// empty stack.
+pub const REGISTER: u32 = 0;
+
+pub const WRITE_ONCE: u32 = 1;
+
+pub const STACK: u32 = 2;
+
+const FIRST: u32 = 65;
+
+pub fn object(number: u32) -> Object {
+    let coded = Coded {
+        number,
+        count: 0,
+        word: FIRST * 2,
+    };
+    let items = [0; ROOM];
+    start_from(coded, items)
 }
 
-pub fn object(start: Start) -> Object {
-    match start {
-        Start::Register => Object::register(65),
-        Start::WriteOnce => Object::default_write_once_register(),
-        Start::Stack => Object::default_stack(),
+// Testers of an object of that kind, fed one event more.
+pub fn feed(testers: Testers, kind: Kind, event: u64) -> Answers {
+    let thread = thread_of(event);
+    if invokes(event) {
+        let op = op_from(kind, op_of(event));
+        if returns(event) {
+            return testers.on_invret(thread, op, ret_from(kind, ret_of(event)));
+        }
+        return testers.on_invoke(thread, op);
     }
+    testers.on_return(thread, ret_from(kind, ret_of(event)))
 }
 
-fn read(start: Start) -> Op {
-    match start {
-        Start::Register => {
-            let op = RegisterOp::Read;
-            Op::Register(op)
-        }
-        Start::WriteOnce => {
-            let op = WORegisterOp::Read;
-            Op::WORegister(op)
-        }
-        Start::Stack => pop(),
-    }
-}
-
-fn write(start: Start, v: i32) -> Op {
-    match start {
-        Start::Register => {
-            let op = RegisterOp::Write(v);
-            Op::Register(op)
-        }
-        Start::WriteOnce => {
-            let op = WORegisterOp::Write(v);
-            Op::WORegister(op)
-        }
-        Start::Stack => push(v),
-    }
-}
-
-fn push(v: i32) -> Op {
-    let op = VecOp::Push(v);
-    Op::Vec(op)
-}
-
-fn pop() -> Op {
-    let op = VecOp::Pop;
-    Op::Vec(op)
-}
-
-fn read_ok(start: Start, v: i32) -> Ret {
-    match start {
-        Start::Register => {
-            let ret = RegisterRet::ReadOk(v);
-            Ret::Register(ret)
-        }
-        Start::WriteOnce => {
-            let m = Maybe::Value(v);
-            let ret = WORegisterRet::ReadOk(m);
-            Ret::WORegister(ret)
-        }
-        Start::Stack => {
-            let m = Maybe::Value(v);
-            let ret = VecRet::PopOk(m);
-            Ret::Vec(ret)
-        }
-    }
-}
-
-fn write_ok(start: Start) -> Ret {
-    match start {
-        Start::Register => {
-            let ret = RegisterRet::WriteOk;
-            Ret::Register(ret)
-        }
-        Start::WriteOnce => {
-            let ret = WORegisterRet::WriteOk;
-            Ret::WORegister(ret)
-        }
-        Start::Stack => push_ok(),
-    }
-}
-
-fn push_ok() -> Ret {
-    let ret = VecRet::PushOk;
-    Ret::Vec(ret)
-}
-
-fn pop_nothing() -> Ret {
-    let m = Maybe::Nothing;
-    let ret = VecRet::PopOk(m);
-    Ret::Vec(ret)
-}
-
-// Testers of that start, fed one event more.
-pub fn feed(testers: Testers, start: Start, event: u64) -> Answers {
-    let thread = thread_of(event) as u32;
-    let v = value_of(event) as i32;
-    match what_of(event) {
-        What::Read => testers.on_invoke(thread, read(start)),
-        What::Write => testers.on_invoke(thread, write(start, v)),
-        What::ReadOk => testers.on_return(thread, read_ok(start, v)),
-        What::WriteOk => testers.on_return(thread, write_ok(start)),
-        What::ReadDone => testers.on_invret(thread, read(start), read_ok(start, v)),
-        What::WriteDone => testers.on_invret(thread, write(start, v), write_ok(start)),
-        What::Push => testers.on_invoke(thread, push(v)),
-        What::Pop => testers.on_invoke(thread, pop()),
-        What::PushOk => testers.on_return(thread, push_ok()),
-        What::PopNothing => testers.on_return(thread, pop_nothing()),
-    }
-}
-
-// Fresh testers of that start, fed these events.
-pub fn fed(start: Start, events: &[u64]) -> Testers {
-    let begun = Testers::new(object(start));
+// Fresh testers of the object of that number, fed these events.
+pub fn fed(number: u32, events: &[u64]) -> Testers {
+    let start = object(number);
+    let kind = start.kind;
+    let begun = Testers::new(start);
     let mut testers = begun.testers;
     let mut i = 0;
     while i < events.len() {
-        let answers = feed(testers, start, events[i]);
+        let answers = feed(testers, kind, events[i]);
         testers = answers.testers;
         i += 1;
     }

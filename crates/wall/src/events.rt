@@ -1,135 +1,90 @@
-// The events of the traces, each coded as one number: the thread, what happens, and a value.
-const READ: u8 = 0;
+// The events of the traces, each coded as one number: the thread, what happens, and a value. What happens is told by
+// the families' numbers: that of the operation, or none, that of the return, or none, and whether it has a value.
+use families::coded::Coded;
 
-const WRITE: u8 = 1;
+// In place of a number where nothing is invoked, or nothing returns.
+const NONE: u8 = 255;
 
-const READ_OK: u8 = 2;
-
-const WRITE_OK: u8 = 3;
-
-const READ_DONE: u8 = 4;
-
-const WRITE_DONE: u8 = 5;
-
-const PUSH: u8 = 6;
-
-const POP: u8 = 7;
-
-const PUSH_OK: u8 = 8;
-
-const POP_NOTHING: u8 = 9;
-
-pub enum What {
-    Read,
-    Write,
-    ReadOk,
-    WriteOk,
-    ReadDone,
-    WriteDone,
-    Push,
-    Pop,
-    PushOk,
-    PopNothing,
-}
-
-fn coded(thread: u8, what: u8, value: u8) -> u64 {
-    (value as u64) * 65536 + (what as u64) * 256 + thread as u64
+fn coded(thread: u8, op: u8, ret: u8, count: u8, value: u8) -> u64 {
+    let what = (count as u64) * 16777216 + (ret as u64) * 65536 + (op as u64) * 256;
+    (value as u64) * 4294967296 + what + thread as u64
 }
 
 // The thread invokes Read.
 pub fn read(thread: u8) -> u64 {
-    coded(thread, READ, 0)
+    coded(thread, 1, NONE, 0, 0)
 }
 
 // The thread invokes Write of the value.
 pub fn write(thread: u8, value: u8) -> u64 {
-    coded(thread, WRITE, value)
+    coded(thread, 0, NONE, 1, value)
 }
 
 // The thread's operation returns ReadOk of the value.
 pub fn read_ok(thread: u8, value: u8) -> u64 {
-    coded(thread, READ_OK, value)
+    coded(thread, NONE, 1, 1, value)
 }
 
 // The thread's operation returns WriteOk.
 pub fn write_ok(thread: u8) -> u64 {
-    coded(thread, WRITE_OK, 0)
+    coded(thread, NONE, 0, 0, 0)
 }
 
 // The thread invokes Read, which returns ReadOk of the value.
 pub fn read_done(thread: u8, value: u8) -> u64 {
-    coded(thread, READ_DONE, value)
+    coded(thread, 1, 1, 1, value)
 }
 
 // The thread invokes Write of the value, which returns WriteOk.
 pub fn write_done(thread: u8, value: u8) -> u64 {
-    coded(thread, WRITE_DONE, value)
+    coded(thread, 0, 0, 1, value)
 }
 
-// The thread invokes Push of the value.
+// The thread invokes Push of the value, by the number that Write has.
 pub fn push(thread: u8, value: u8) -> u64 {
-    coded(thread, PUSH, value)
+    write(thread, value)
 }
 
-// The thread invokes Pop.
+// The thread invokes Pop, by that of Read.
 pub fn pop(thread: u8) -> u64 {
-    coded(thread, POP, 0)
+    read(thread)
 }
 
-// The thread's operation returns PushOk.
+// The thread's operation returns PushOk, by that of WriteOk.
 pub fn push_ok(thread: u8) -> u64 {
-    coded(thread, PUSH_OK, 0)
+    write_ok(thread)
 }
 
 // The thread's operation returns PopOk of nothing.
 pub fn pop_nothing(thread: u8) -> u64 {
-    coded(thread, POP_NOTHING, 0)
+    coded(thread, NONE, 1, 0, 0)
 }
 
-pub fn thread_of(event: u64) -> u8 {
-    (event % 256) as u8
+pub fn thread_of(event: u64) -> u32 {
+    (event % 256) as u32
 }
 
-pub fn value_of(event: u64) -> u8 {
-    (event / 65536 % 256) as u8
+pub fn invokes(event: u64) -> bool {
+    event / 256 % 256 != NONE as u64
 }
 
-pub fn what_of(event: u64) -> What {
-    let what = (event / 256 % 256) as u8;
-    if what < READ_DONE {
-        return what_alone(what);
-    }
-    if what == READ_DONE {
-        return What::ReadDone;
-    }
-    if what == WRITE_DONE {
-        return What::WriteDone;
-    }
-    what_stack(what)
+pub fn returns(event: u64) -> bool {
+    event / 65536 % 256 != NONE as u64
 }
 
-fn what_alone(what: u8) -> What {
-    if what == READ {
-        return What::Read;
+// What is told by that number.
+fn told(number: u32, event: u64) -> Coded {
+    Coded {
+        number,
+        count: (event / 16777216 % 256) as u32,
+        word: (event / 4294967296 % 256) as u32 * 2,
     }
-    if what == WRITE {
-        return What::Write;
-    }
-    if what == READ_OK {
-        return What::ReadOk;
-    }
-    What::WriteOk
 }
 
-fn what_stack(what: u8) -> What {
-    if what == PUSH {
-        return What::Push;
-    }
-    if what == POP {
-        return What::Pop;
-    }
-    if what == PUSH_OK {
-        return What::PushOk;
-    }
-    What::PopNothing
+pub fn op_of(event: u64) -> Coded {
+    told((event / 256 % 256) as u32, event)
+}
+
+pub fn ret_of(event: u64) -> Coded {
+    told((event / 65536 % 256) as u32, event)
 }

@@ -3,11 +3,12 @@ use crate::bytes::say_answer;
 use crate::bytes::say_bytes;
 use crate::telling::say;
 use crate::telling::say_number;
-use crate::verdicts::say_value;
+use crate::words::say_value;
 use corpus::linearizability::Loaded;
 use corpus::linearizability::load;
+use families::placing::held_of;
+use families::value::zigzag;
 use host::kilteshva_judge;
-use semantics::Kind;
 
 // The size of an answer of the host call.
 const ANSWER: usize = 79;
@@ -15,16 +16,7 @@ const ANSWER: usize = 79;
 // A byte that the host call has to write over.
 const UNWRITTEN: u8 = 0xAA;
 
-fn say_start(kind: Kind) {
-    match kind {
-        Kind::Register(v) => {
-            say(b"; a register at ");
-            say_value(v);
-        }
-        _ => say(b"; no register"),
-    }
-}
-
+// What a file with a register loads to.
 fn say_loaded(loaded: Loaded) {
     say_number(loaded.number as u64);
     say(b", place ");
@@ -33,7 +25,9 @@ fn say_loaded(loaded: Loaded) {
     let history = tester.history;
     let start = history.start;
     let kind = start.kind;
-    say_start(kind);
+    let held = held_of(kind);
+    say(b"; a register at ");
+    say_value(zigzag(held.value));
 }
 
 fn loaded(file: &[u8]) {

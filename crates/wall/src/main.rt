@@ -7,6 +7,7 @@ mod running;
 mod telling;
 mod traces;
 mod verdicts;
+mod words;
 
 use telling::say;
 

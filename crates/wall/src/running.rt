@@ -1,7 +1,8 @@
 // A trace, run on both testers and judged by both judges.
-use crate::calls::Start;
+use crate::calls::REGISTER;
 use crate::calls::fed;
 use crate::calls::feed;
+use crate::calls::object;
 use crate::telling::say;
 use crate::telling::tell;
 use crate::telling::tell_event;
@@ -11,38 +12,40 @@ use judging::sequential_consistency;
 use testers::Testers;
 
 // What both judges answer within the budget.
-fn judge(testers: Testers, budget: u64) {
+fn judge(number: u32, testers: Testers, budget: u64) {
     tell_verdicts(
+        number,
         linearizability::judge(testers.linearizability, budget),
         sequential_consistency::judge(testers.sequential, budget),
     );
 }
 
 // Tells the events, and the verdicts on them within the budget.
-pub fn judged(title: &[u8], start: Start, events: &[u64], budget: u64) {
+pub fn judged(title: &[u8], number: u32, events: &[u64], budget: u64) {
     say(title);
     let mut i = 0;
     while i < events.len() {
-        tell_event(events[i]);
+        tell_event(number, events[i]);
         say(b"; ");
         i += 1;
     }
-    judge(fed(start, events), budget);
+    judge(number, fed(number, events), budget);
 }
 
-// Tells the events one by one with what each is answered, and the verdicts after them, with no end to the
+// Tells the events on the register one by one with what each is answered, and the verdicts after them, with no end to the
 // budget. Those before are only fed.
 pub fn recorded(title: &[u8], before: &[u64], events: &[u64]) {
-    let register = Start::Register;
+    let start = object(REGISTER);
+    let kind = start.kind;
     say(title);
-    let mut testers = fed(register, before);
+    let mut testers = fed(REGISTER, before);
     let mut i = 0;
     while i < events.len() {
         let event = events[i];
         i += 1;
-        let answers = feed(testers, register, event);
-        tell(event, answers.linearizability, answers.sequential);
+        let answers = feed(testers, kind, event);
+        tell(REGISTER, event, answers.linearizability, answers.sequential);
         testers = answers.testers;
     }
-    judge(testers, u64::MAX);
+    judge(REGISTER, testers, u64::MAX);
 }

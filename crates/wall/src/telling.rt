@@ -1,8 +1,11 @@
 // The events and what they are answered, in words.
-use crate::events::What;
+use crate::events::invokes;
+use crate::events::op_of;
+use crate::events::ret_of;
+use crate::events::returns;
 use crate::events::thread_of;
-use crate::events::value_of;
-use crate::events::what_of;
+use crate::words::say_op;
+use crate::words::say_ret;
 use libc::STDOUT_FILENO;
 use testers::Answer;
 
@@ -14,27 +17,20 @@ pub fn say_number(n: u64) {
     io::print_decimal(STDOUT_FILENO, n);
 }
 
-fn say_with(text: &[u8], value: u8, rest: &[u8]) {
-    say(text);
-    say_number(value as u64);
-    say(rest);
-}
-
-pub fn tell_event(event: u64) {
-    let value = value_of(event);
+// An event on the object of that number.
+pub fn tell_event(number: u32, event: u64) {
     say(b"T");
     say_number(thread_of(event) as u64);
-    match what_of(event) {
-        What::Read => say(b" invokes Read"),
-        What::Write => say_with(b" invokes Write(", value, b")"),
-        What::ReadOk => say_with(b" returns ReadOk(", value, b")"),
-        What::WriteOk => say(b" returns WriteOk"),
-        What::ReadDone => say_with(b" invokes Read and returns ReadOk(", value, b")"),
-        What::WriteDone => say_with(b" invokes Write(", value, b") and returns WriteOk"),
-        What::Push => say_with(b" invokes Push(", value, b")"),
-        What::Pop => say(b" invokes Pop"),
-        What::PushOk => say(b" returns PushOk"),
-        What::PopNothing => say(b" returns PopOk(nothing)"),
+    if invokes(event) {
+        say(b" invokes ");
+        say_op(number, op_of(event));
+        if returns(event) {
+            say(b" and");
+        }
+    }
+    if returns(event) {
+        say(b" returns ");
+        say_ret(number, ret_of(event));
     }
 }
 
@@ -52,8 +48,8 @@ fn same(a: Answer, b: Answer) -> bool {
 }
 
 // An event and its answer; both testers' answers where they are not the same.
-pub fn tell(event: u64, linearizability: Answer, sequential: Answer) {
-    tell_event(event);
+pub fn tell(number: u32, event: u64, linearizability: Answer, sequential: Answer) {
+    tell_event(number, event);
     say(b": ");
     say_answer(linearizability);
     if same(linearizability, sequential) {

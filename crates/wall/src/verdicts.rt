@@ -1,93 +1,23 @@
-// The judges' answers, in words.
+// The judges' answers, in words, on the object of a number.
 use crate::telling::say;
 use crate::telling::say_number;
+use crate::words::say_ret;
+use families::codes::ret_coded;
+use families::sizes::OPERATIONS;
 use judging::answer::Answer;
 use judging::answer::Placed;
 use judging::answer::Verdict;
-use semantics::Ret;
-use semantics::register::RegisterRet;
-use semantics::sizes::OPERATIONS;
-use semantics::value::Maybe;
-use semantics::vec::VecRet;
-use semantics::write_once_register::WORegisterRet;
 
-// A value as a natural number; 0 where it is below zero.
-fn natural(v: i32) -> u32 {
-    if v < 0 {
-        return 0;
-    }
-    v as u32
-}
-
-pub fn say_value(v: i32) {
-    if v < 0 {
-        say(b"-");
-        say_number(natural(!v) as u64 + 1);
-        return;
-    }
-    say_number(natural(v) as u64);
-}
-
-fn say_maybe(m: Maybe) {
-    match m {
-        Maybe::Nothing => say(b"nothing"),
-        Maybe::Value(v) => say_value(v),
-    }
-}
-
-fn say_register(ret: RegisterRet) {
-    match ret {
-        RegisterRet::WriteOk => say(b"WriteOk"),
-        RegisterRet::ReadOk(v) => {
-            say(b"ReadOk(");
-            say_value(v);
-            say(b")");
-        }
-    }
-}
-
-fn say_write_once(ret: WORegisterRet) {
-    match ret {
-        WORegisterRet::WriteOk => say(b"WriteOk"),
-        WORegisterRet::WriteFail => say(b"WriteFail"),
-        WORegisterRet::ReadOk(m) => {
-            say(b"ReadOk(");
-            say_maybe(m);
-            say(b")");
-        }
-    }
-}
-
-fn say_stack(ret: VecRet) {
-    match ret {
-        VecRet::PushOk => say(b"PushOk"),
-        VecRet::PopOk(m) => {
-            say(b"PopOk(");
-            say_maybe(m);
-            say(b")");
-        }
-        VecRet::LenOk(n) => {
-            say(b"LenOk(");
-            say_number(n as u64);
-            say(b")");
-        }
-    }
-}
-
-fn say_placed(placed: Placed) {
+fn say_placed(number: u32, placed: Placed) {
     let ret = placed.ret;
     say(b" ");
     say_number(placed.thread as u64);
     say(b" ");
-    match ret {
-        Ret::Register(r) => say_register(r),
-        Ret::WORegister(r) => say_write_once(r),
-        Ret::Vec(r) => say_stack(r),
-    }
+    say_ret(number, ret_coded(ret));
 }
 
 // Each place of the order: its thread and the return there.
-fn say_order(answer: Answer) {
+fn say_order(number: u32, answer: Answer) {
     let length = answer.length;
     if length == 0 {
         say(b", empty");
@@ -100,18 +30,18 @@ fn say_order(answer: Answer) {
                 say(b",");
             }
             let placed = answer.order[i];
-            say_placed(placed);
+            say_placed(number, placed);
         }
         i += 1;
     }
 }
 
-fn say_answer(answer: Answer) {
+fn say_answer(number: u32, answer: Answer) {
     let verdict = answer.verdict;
     match verdict {
         Verdict::Order => {
             say(b"Order");
-            say_order(answer);
+            say_order(number, answer);
         }
         Verdict::NoOrder => say(b"No order"),
         Verdict::Undecided => say(b"Undecided"),
@@ -122,10 +52,10 @@ fn say_answer(answer: Answer) {
 }
 
 // One line for both models.
-pub fn tell_verdicts(linearizability: Answer, sequential: Answer) {
+pub fn tell_verdicts(number: u32, linearizability: Answer, sequential: Answer) {
     say(b"linearizable: ");
-    say_answer(linearizability);
+    say_answer(number, linearizability);
     say(b" | sequential: ");
-    say_answer(sequential);
+    say_answer(number, sequential);
     say(b"\n");
 }

@@ -5,13 +5,13 @@ use mathlib.Core.Bool.{Bool, true, false}
 use mathlib.Core.List.{List}
 use lib.ListN.{length}
 use Rattle.history.specs.Space.{met}
-use Rattle.semantics.specs.Value.{pick}
-use Rattle.semantics.specs.Sizes.{threads, room}
+use Rattle.families.specs.Value.{pick}
+use Rattle.families.specs.Sizes.{threads, room}
 use Rattle.recording.specs.Shape.{shapeOf}
-use Rattle.reading.specs.Reading.{Sized}
-use Rattle.reading.specs.Models.{Model}
+use Rattle.recording_meaning.specs.Reading.{Sized}
+use Rattle.recording_meaning.specs.Models.{Model}
 use Rattle.witness.specs.Checking.{checkOf}
-use Rattle.witness.specs.Playing.{reachesOf, playOf}
+use Rattle.witness.specs.WordsPlayed.{reachesOf, playOf}
 use Rattle.witness.proofs.Stages.{played}
 
 both-passed : (a b : Bool) (x : Bool) → a ≡ true → b ≡ true → x ≡ pick a (pick b x false) false

@@ -14,14 +14,14 @@ use Rattle.history.specs.Rows.{Entry, row, Shaped, empty, in-flight, completed-
 use Rattle.history.specs.Recorder.{completed as completed-of}
 use Rattle.history.specs.Space.{met, only-pending, all-placed}
 use Rattle.history.specs.Progress.{met-of, of-met, placed-of, of-placed}
-use Rattle.semantics.specs.Sizes.{threads}
-use Rattle.semantics.specs.Families.{families}
+use Rattle.families.specs.Sizes.{threads}
+use Rattle.families.specs.Families.{families}
 use Rattle.recording.specs.declared.consistency_tester.History.{History}
-use Rattle.reading.specs.Reading.{rowsOf, notesOf}
-use Rattle.reading.specs.Rowing.{rows-many}
-use Rattle.reading.specs.Parts.{below-each, each-below, Parts}
-use Rattle.reading.specs.Shaping.{rows-shaped, rows-done}
-use Rattle.witness.specs.Playing.{reachesOf}
+use Rattle.recording_meaning.specs.Reading.{rowsOf, notesOf}
+use Rattle.recording_meaning.specs.Rowing.{rows-many}
+use Rattle.recording_meaning.specs.Parts.{below-each, each-below, Parts}
+use Rattle.recording_meaning.specs.Shaping.{rows-shaped, rows-done}
+use Rattle.witness.specs.WordsPlayed.{reachesOf}
 
 -- two tests, each of which passes where the other does
 same-test : (a b : Bool) → (a ≡ true → b ≡ true) → (b ≡ true → a ≡ true) → a ≡ b

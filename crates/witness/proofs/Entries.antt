@@ -11,15 +11,15 @@ use lib.Dec.{eqb}
 use Rattle.history.specs.Rows.{Entry, row}
 use Rattle.history.specs.Space.{next}
 use Rattle.history.specs.Progress.{next-row}
-use Rattle.semantics.specs.Value.{pick}
-use Rattle.semantics.specs.Sizes.{threads, capacity}
-use Rattle.semantics.specs.Families.{families}
+use Rattle.families.specs.Value.{pick}
+use Rattle.families.specs.Sizes.{threads, capacity}
+use Rattle.families.specs.Families.{families}
 use Rattle.recording.specs.declared.consistency_tester.Operation.{Operation}
 use Rattle.recording.specs.declared.consistency_tester.History.{History}
 use Rattle.recording.specs.Record.{blankOperation, held, operationAt}
-use Rattle.reading.specs.Reading.{Sized, entryOf, entries, of-thread, rowsOf}
-use Rattle.reading.specs.Rowing.{rows-many, row-is}
-use Rattle.witness.specs.Playing.{placeOf}
+use Rattle.recording_meaning.specs.Reading.{Sized, entryOf, entries, of-thread, rowsOf}
+use Rattle.recording_meaning.specs.Rowing.{rows-many, row-is}
+use Rattle.witness.specs.WordsPlayed.{placeOf}
 
 module _ (needs : ℕ → List ℕ) where
   -- the entry at place j of the operations, of which the first stands at place i

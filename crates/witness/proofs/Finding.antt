@@ -9,12 +9,12 @@ use lib.ListN.{length, drop}
 use lib.Seq.{length-take-le}
 use lib.Dec.{eqb}
 use borrow.Author.Tests.{eq-eqb, ne-eqb}
-use Rattle.semantics.specs.Value.{pick}
+use Rattle.families.specs.Value.{pick}
 use Rattle.recording.specs.declared.consistency_tester.Operation.{Operation}
 use Rattle.recording.specs.declared.consistency_tester.History.{History}
 use Rattle.recording.specs.Record.{blankOperation, held, operationAt}
-use Rattle.recording.proofs.Laws.{held-cons, held-end}
-use Rattle.witness.specs.Playing.{placeOf}
+use Rattle.recording.specs.RecordLaws.{held-cons, held-end}
+use Rattle.witness.specs.WordsPlayed.{placeOf}
 
 -- what is left to look at gives the place, counted from i on
 abbrev pub Finding : History → ℕ → ℕ → ℕ → ℕ → Type 0

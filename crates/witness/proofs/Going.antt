@@ -9,7 +9,7 @@ use lib.Seq.{drop-cons}
 use Rattle.recording.specs.declared.consistency_tester.History.{History}
 use Rattle.witness.specs.declared.replay.Stage.{Stage}
 use Rattle.witness.specs.Words.{placeWords}
-use Rattle.witness.specs.Playing.{reachesOf, stageAfter, playFrom, begun, playOf}
+use Rattle.witness.specs.WordsPlayed.{reachesOf, stageAfter, playFrom, begun, playOf}
 
 abbrev pub Going : List ℕ → History → List ℕ → Stage → ℕ → Type 0
 Going notes h ws s i = (i ≤ length ws) × (playFrom notes h s (drop i ws) ≡ playOf notes h ws)

@@ -1,4 +1,3 @@
-pub mod Zigzag
 pub mod Finding
 pub mod Going
 pub mod Objects

@@ -1,6 +1,6 @@
 -- The replay on the record is the replay over the rows that it reads as.
-use Prim.Native.Nat.{ℕ, zero, suc, _+_, _*_, _<_, _≤_}
-use mathlib.Core.Path.{_≡_, refl, sym, ap, _∙_}
+use Prim.Native.Nat.{ℕ, zero, suc, _-_, _*_, _<_, _≤_}
+use mathlib.Core.Path.{_≡_, refl, sym, ap, _∙_, subst}
 use mathlib.Core.Bool.{Bool, true, false, not}
 use mathlib.Core.Option.{Option, none, some}
 use mathlib.Core.List.{List, [], _∷_}
@@ -16,28 +16,32 @@ use Rattle.history.specs.Space.{Node, next, met, gives, stepped, placing, tryin
 use Rattle.history.specs.Moves.{falls, plays-move}
 use Rattle.history.specs.Left.{spent}
 use Rattle.history.specs.Attempts.{size-root}
-use Rattle.semantics.specs.Value.{pick}
-use Rattle.semantics.specs.Sizes.{threads, capacity, room}
-use Rattle.semantics.specs.Families.{families}
+use Rattle.families.specs.Value.{pick}
+use Rattle.families.specs.Sizes.{threads, capacity, room}
+use Rattle.families.specs.Families.{families}
 use Rattle.semantics.specs.Calls.{leftBy}
-use Rattle.semantics.specs.Family.{familyOf, opFamily}
-use Rattle.semantics.specs.Refusals.{depthOf}
+use Rattle.families.specs.Placing.{heldOf}
+use Rattle.families.specs.Refusals.{opBelongs}
+use Rattle.families.specs.Room.{start-room, room-fewer}
+use Rattle.families.specs.States.{Alike, alike-op}
+use Rattle.families.specs.declared.refusal.Check.the-variants.{Clear}
 use Rattle.semantics.specs.Invoking.{holds}
-use Rattle.semantics.specs.declared.Ret.{Ret}
+use Rattle.semantics.specs.Roomy.{RoomFor, left-holds, left-full, left-alike, left-roomy}
+use Rattle.families.specs.declared.Ret.{Ret}
 use Rattle.recording.specs.declared.consistency_tester.Operation.{Operation}
 use Rattle.recording.specs.declared.consistency_tester.History.{History}
 use Rattle.recording.specs.Record.{held, operationAt}
-use Rattle.recording.specs.Shape.{family, shapeOf}
-use Rattle.reading.specs.Reading.{Sized, entryOf, rowsOf}
-use Rattle.reading.specs.Rowing.{rows-many}
-use Rattle.reading.specs.Parts.{parts-of}
-use Rattle.reading.specs.Shaping.{rows-count}
-use Rattle.reading.specs.ShapeExactly.{shape-exactly}
+use Rattle.recording.specs.Shape.{shapeOf}
+use Rattle.recording_meaning.specs.Reading.{Sized, entryOf, rowsOf}
+use Rattle.recording_meaning.specs.Rowing.{rows-many}
+use Rattle.recording_meaning.specs.Parts.{parts-of}
+use Rattle.recording_meaning.specs.Shaping.{rows-count}
+use Rattle.recording_meaning.specs.ShapeExactly.{shape-exactly}
 use Rattle.witness.specs.declared.replay.Stage.{Stage}
 use Rattle.witness.specs.Checking.{told, placed, replays}
-use Rattle.witness.specs.Replaying.{told-return}
-use Rattle.witness.specs.Playing.{placeOf, reachesOf, settleOf, stage, onStage, stageAt, stageAfter, goesOn, playFrom, begun, playOf}
-use Rattle.witness.proofs.Objects.{left-holds, left-full, left-own, left-low, settles}
+use Rattle.witness.specs.WordsReplayed.{told-return}
+use Rattle.witness.specs.WordsPlayed.{placeOf, reachesOf, settleOf, stage, onStage, stageAt, stageAfter, goesOn, playFrom, begun, playOf}
+use Rattle.witness.proofs.Objects.{settles}
 use Rattle.witness.proofs.Entries.{next-unknown, next-there, next-none}
 use Rattle.witness.proofs.Endings.{done-placed}
 
@@ -70,12 +74,12 @@ module _ (notes : List ℕ) (needs : ℕ → List ℕ) (h : History) (z : Sized 
   abbrev rows : Rows families
   rows = rowsOf needs h
 
-  -- the counters are all there, and the object is of the history's family and has room for all that is not placed
+  -- the counters are all there, and the object is of the history's kind and has room for all that is not placed
   record Fine (s : Stage) : Type 0 where
     many : length (s .progress) ≡ threads
     full : length (s .object .items) ≡ room
-    own : familyOf (s .object .kind) ≡ family h
-    low : depthOf (s .object .kind) + size families rows (nodeOf s) ≤ room
+    own : Alike (h .start .kind) (s .object .kind)
+    roomy : RoomFor (s .object) (size families rows (nodeOf s))
 
   module _ (s : Stage) (f : Fine s) (t : ℕ) (ws : List ℕ) where
     -- one place more, at place i of the record
@@ -83,11 +87,17 @@ module _ (notes : List ℕ) (needs : ℕ → List ℕ) (h : History) (z : Sized 
       abbrev o : Operation
       o = operationAt h i
 
-      op-own : opFamily (o .op) ≡ familyOf (s .object .kind)
-      op-own = shape-exactly h z .1 e .one-family i l ∙ sym (f .own)
+      op-own : opBelongs (s .object .kind) (o .op) ≡ Clear
+      op-own = alike-op (h .start .kind) (s .object .kind) (o .op) (f .own) (shape-exactly h z .1 e .own-op i l)
 
-      has-low : depthOf (s .object .kind) < room
-      has-low = omega (arith, f .low, some-left rows (nodeOf s) t _ here)
+      -- how many are not placed after it
+      abbrev more : ℕ
+      more = size families rows (nodeOf s) - 1
+
+      has-room : RoomFor (s .object) (suc more)
+      has-room =
+          let q : size families rows (nodeOf s) ≡ suc more = omega (arith, some-left rows (nodeOf s) t _ here) in
+          subst (RoomFor (s .object)) q (f .roomy)
 
       abbrev entry : Entry families
       entry = entryOf o (needs i)
@@ -99,17 +109,17 @@ module _ (notes : List ℕ) (needs : ℕ → List ℕ) (h : History) (z : Sized 
       after = onStage (s .progress) t (settleOf (s .object) (o .op) (o .outcome) ws)
 
       settled-ok : after .ok ≡ given
-      settled-ok = settles (s .object) (o .op) (f .full) op-own has-low (o .outcome) ws .ok
+      settled-ok = settles (s .object) (o .op) more (f .full) op-own has-room (o .outcome) ws .ok
 
       settled-ended : after .ended ≡ not (pending families (entry .ret))
-      settled-ended = settles (s .object) (o .op) (f .full) op-own has-low (o .outcome) ws .ended
+      settled-ended = settles (s .object) (o .op) more (f .full) op-own has-room (o .outcome) ws .ended
 
       module _ (y : after .ok ≡ true) (m : met (needs i) (s .progress) ≡ true) where
         left-by : after .object ≡ leftBy (s .object) (o .op)
-        left-by = settles (s .object) (o .op) (f .full) op-own has-low (o .outcome) ws .left y
+        left-by = settles (s .object) (o .op) more (f .full) op-own has-room (o .outcome) ws .left y
 
         steps : nodeOf after ≡ stepped families (nodeOf s) t entry
-        steps = rw (add-one (getD (s .progress) t 0), left-by, left-holds (s .object) (o .op) (f .full) op-own has-low)
+        steps = rw (add-one (getD (s .progress) t 0), left-by, left-holds (s .object) (o .op) more (f .full) op-own has-room)
 
         one-less : size families rows (nodeOf s) ≡ suc (size families rows (nodeOf after))
         one-less =
@@ -120,9 +130,9 @@ module _ (notes : List ℕ) (needs : ℕ → List ℕ) (h : History) (z : Sized 
         fine : Fine after
         fine = record {
           many = length-set (s .progress) t _ ∙ f .many;
-          full = ap (λ b. length (b .items)) left-by ∙ left-full (s .object) (o .op) (f .full) op-own has-low;
-          own = ap (λ b. familyOf (b .kind)) left-by ∙ left-own (s .object) (o .op) (f .full) op-own has-low ∙ f .own;
-          low = rw left-by (omega (arith, f .low, one-less, left-low (s .object) (o .op) (f .full) op-own has-low));
+          full = ap (λ b. length (b .items)) left-by ∙ left-full (s .object) (o .op) more (f .full) op-own has-room;
+          own = rw left-by (f .own ∙ left-alike (s .object) (o .op) more (f .full) op-own has-room);
+          roomy = rw left-by (subst (RoomFor (leftBy (s .object) (o .op))) (omega (arith, one-less)) (left-roomy (s .object) (o .op) more (f .full) op-own has-room));
         }
 
       -- what `go` says of the stage that is left, `on` says of the situation
@@ -189,5 +199,6 @@ module _ (notes : List ℕ) (needs : ℕ → List ℕ) (h : History) (z : Sized 
         many = refl;
         full = full;
         own = refl;
-        low = omega (arith, all, w .low, w .few);
+        roomy = room-fewer (h .start .kind) (heldOf (h .start .kind)) capacity _ (omega (arith, all, w .few))
+            (start-room (h .start .kind) (shape-exactly h z .1 e .startable));
       }) ∙ ap (λ x. replays rows true x ws) at-root

@@ -7,11 +7,11 @@ use lib.Dec.{eqb}
 use Rattle.history.specs.Rows.{Entry, Rows}
 use Rattle.history.specs.Recorder.{pending}
 use Rattle.history.specs.Space.{Node, next, met, all-placed, gives, stepped, root}
-use Rattle.semantics.specs.Value.{pick}
-use Rattle.semantics.specs.Families.{families}
+use Rattle.families.specs.Value.{pick}
+use Rattle.families.specs.Families.{families}
 use Rattle.semantics.specs.Invoking.{holds}
-use Rattle.semantics.specs.declared.Ret.{Ret}
-use Rattle.reading.specs.Models.{Model, rows-of}
+use Rattle.families.specs.declared.Ret.{Ret}
+use Rattle.recording_meaning.specs.Models.{Model, rows-of}
 use Rattle.witness.specs.Words.{wordsOf}
 
 -- The same words.

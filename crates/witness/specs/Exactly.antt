@@ -7,14 +7,14 @@ use mathlib.Core.List.{List}
 use Rattle.history.specs.Orders.{Order, LegalOrder}
 use Rattle.history.specs.Space.{root}
 use Rattle.history.specs.Endings.{legal-orders}
-use Rattle.semantics.specs.Families.{families}
-use Rattle.semantics.specs.Same.{lawful}
+use Rattle.families.specs.Families.{families}
+use Rattle.families.specs.Same.{lawful}
 use Rattle.semantics.specs.Invoking.{holds}
-use Rattle.reading.specs.Models.{Model, rows-of}
-use Rattle.reading.specs.Parts.{pick-left, pick-right, pick-both}
+use Rattle.recording_meaning.specs.Models.{Model, rows-of}
+use Rattle.recording_meaning.specs.Parts.{pick-left, pick-right, pick-both}
 use Rattle.witness.specs.Words.{orderWords}
 use Rattle.witness.specs.Checking.{replays, checkOf}
-use Rattle.witness.specs.Replaying.{words-order, order-words}
+use Rattle.witness.specs.WordsReplayed.{words-order, order-words}
 
 module _ (M : Model) (s : M .Tester) (ws : List ℕ) where
   -- The words are those of a legal order of the tester's rows, from its initial object on.

@@ -2,9 +2,9 @@
 pub mod Words
 pub mod Checking
 -- That words tell the return within a family.
-pub mod Telling
+pub mod WordsTell
 -- That it is yes exactly for the legal orders.
-pub mod Replaying
+pub mod WordsReplayed
 pub mod Exactly
 -- What the code's functions answer.
-pub mod Playing
+pub mod WordsPlayed

@@ -2,7 +2,7 @@
 use crate::replay::replay;
 use recording::linearizability::LinearizabilityTester;
 ghost use mathlib.Core.Path.{_≡_};
-ghost use Rattle.reading.specs.Models.{linearizabilityModel};
+ghost use Rattle.recording_meaning.specs.Models.{linearizabilityModel};
 ghost use Rattle.witness.specs.Checking.{checkOf};
 
 // Whether the tester is in shape and valid and the order is a legal one.

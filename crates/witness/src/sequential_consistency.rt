@@ -3,7 +3,7 @@ use crate::replay::replay;
 use recording::linearizability::NOTES;
 use recording::sequential_consistency::SequentialConsistencyTester;
 ghost use mathlib.Core.Path.{_≡_};
-ghost use Rattle.reading.specs.Models.{sequentialModel};
+ghost use Rattle.recording_meaning.specs.Models.{sequentialModel};
 ghost use Rattle.witness.specs.Checking.{checkOf};
 
 // Whether the tester is in shape and valid and the order is a legal one. It keeps no notes, so all are 0.

@@ -3,7 +3,7 @@ use mathlib.Core.Path.{_≡_, sym, subst}
 use native.Mathlib.Omega.{arith}
 use borrow.Author.Needs.{needs}
 use Rattle.host.specs.Call.{reportOf, modelOf}
-use Rattle.host.specs.Meant.{calls}
+use Rattle.host.specs.CallMeant.{calls}
 use Rattle.host.proofs.Calling.{unwritten, written}
 use Rattle.host.proofs.kilteshva_judge.Statement.{statement}
 use Rattle.host.proofs.kilteshva_judge.Tie as tie

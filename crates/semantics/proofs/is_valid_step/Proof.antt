@@ -1,3 +1,4 @@
+-- Refused, right, wrong but done all the same, or wrong: by the definition's cases.
 use mathlib.Core.Path.{sym, _∙_}
 use borrow.Author.Needs.{needs}
 use Rattle.semantics.specs.Calls.{stepOf}
@@ -26,18 +27,15 @@ returns : tie.Need-returns
 unfolding stepOf
 returns c = simp (sym (c .before .before .right .ensures) ∙ c .before .if1 .taken, ← c .left-by .ensures, ← c .before .before .before .before .held-of .ensures, ← c .before .before .before .before .before .before .before .before .check-step .ensures, c .before .before .before .before .before .before .enum-told .given .1)
 
-is-pop-requires : tie.Need-is-pop-requires
-is-pop-requires c κs = search needs
-
-is-popped-requires : tie.Need-is-popped-requires
-is-popped-requires c κs = search needs
+leaves-wrong-requires : tie.Need-leaves-wrong-requires
+leaves-wrong-requires c κs = search needs
 
 left-by-requires-2 : tie.Need-left-by-requires-2
 left-by-requires-2 c κs = search needs
 
 returns-2 : tie.Need-returns-2
 unfolding stepOf
-returns-2 c = simp (sym (c .before .before .is-popped .ensures) ∙ c .before .if3 .taken, sym (c .before .before .before .before .is-pop .ensures) ∙ c .before .before .before .if2 .taken, sym (c .before .before .before .before .before .before .right .ensures) ∙ c .before .before .before .before .before .if1 .left, ← c .left-by2 .ensures, ← c .before .before .before .before .before .before .before .before .held-of .ensures, ← c .before .before .before .before .before .before .before .before .before .before .before .before .check-step .ensures, c .before .before .before .before .before .before .before .before .before .before .enum-told .given .1, c .before .before .before .before .before .before .before .before .before .items .given)
+returns-2 c = simp (sym (c .before .before .leaves-wrong .ensures) ∙ c .before .if2 .taken, sym (c .before .before .before .before .right .ensures) ∙ c .before .before .before .if1 .left, ← c .left-by2 .ensures, ← c .before .before .before .before .before .before .held-of .ensures, ← c .before .before .before .before .before .before .before .before .before .before .check-step .ensures, c .before .before .before .before .before .before .before .before .enum-told .given .1)
 
 returns-3 : tie.Need-returns-3
 unfolding stepOf
@@ -45,11 +43,7 @@ returns-3 c = simp (← c .before .before .before .check-step .ensures, c .befor
 
 returns-4 : tie.Need-returns-4
 unfolding stepOf
-returns-4 c = simp (sym (c .before .is-popped .ensures) ∙ c .if3 .left, sym (c .before .before .before .is-pop .ensures) ∙ c .before .before .if2 .taken, sym (c .before .before .before .before .before .right .ensures) ∙ c .before .before .before .before .if1 .left, ← c .before .before .before .before .before .before .before .held-of .ensures, ← c .before .before .before .before .before .before .before .before .before .before .before .check-step .ensures, c .before .before .before .before .before .before .before .before .before .enum-told .given .1, c .before .before .before .before .before .before .before .before .items .given)
-
-returns-5 : tie.Need-returns-5
-unfolding stepOf
-returns-5 c = simp (sym (c .before .is-pop .ensures) ∙ c .if2 .left, sym (c .before .before .before .right .ensures) ∙ c .before .before .if1 .left, ← c .before .before .before .before .before .held-of .ensures, ← c .before .before .before .before .before .before .before .before .before .check-step .ensures, c .before .before .before .before .before .before .before .enum-told .given .1)
+returns-4 c = simp (sym (c .before .leaves-wrong .ensures) ∙ c .if2 .left, sym (c .before .before .before .right .ensures) ∙ c .before .before .if1 .left, ← c .before .before .before .before .before .held-of .ensures, ← c .before .before .before .before .before .before .before .before .before .check-step .ensures, c .before .before .before .before .before .before .before .enum-told .given .1)
 
 pub is-valid-step-spec : {M : Type 1} → statement M
 is-valid-step-spec =
@@ -62,10 +56,8 @@ is-valid-step-spec =
     right-requires
     left-by-requires
     returns
-    is-pop-requires
-    is-popped-requires
+    leaves-wrong-requires
     left-by-requires-2
     returns-2
     returns-3
-    returns-4
-    returns-5)
+    returns-4)

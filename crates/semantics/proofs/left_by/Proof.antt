@@ -1,6 +1,7 @@
+-- The two words after the act say what the object is, and the lent items what it holds.
 use borrow.Author.Needs.{needs}
 use Rattle.semantics.specs.Calls.{leftBy}
-use Rattle.semantics.specs.Placing.{actedOf}
+use Rattle.families.specs.Placing.{actedOf}
 use Rattle.semantics.proofs.left_by.Statement.{statement}
 use Rattle.semantics.proofs.left_by.Tie as tie
 

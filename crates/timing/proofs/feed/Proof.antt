@@ -6,10 +6,10 @@ use Rattle.timing.proofs.feed.Statement.{statement}
 use Rattle.timing.proofs.feed.Tie as tie
 
 abbrev Inv-loop : tie.InvT-loop
-Inv-loop events tester₀ sum₀ i₀ tester sum i = Unit
+Inv-loop kind events tester₀ sum₀ i₀ tester sum i = Unit
 
 abbrev μ-loop : tie.MeasureT-loop
-μ-loop events tester₀ sum₀ i₀ tester sum i = length events - i
+μ-loop kind events tester₀ sum₀ i₀ tester sum i = length events - i
 
 loop-holds : tie.Need-loop-holds Inv-loop μ-loop
 loop-holds c = search needs

@@ -4,13 +4,13 @@ use Rattle.timing.proofs.timing_feed.Statement.{statement}
 use Rattle.timing.proofs.timing_feed.Tie as tie
 
 abbrev Inv-loop : tie.InvT-loop
-Inv-loop before events times start sum₀ left₀ sum left = Unit
+Inv-loop before events times kind start sum₀ left₀ sum left = Unit
 
 abbrev μ-loop : tie.MeasureT-loop
-μ-loop before events times start sum₀ left₀ sum left = left
+μ-loop before events times kind start sum₀ left₀ sum left = left
 
-register-requires : tie.Need-register-requires Inv-loop μ-loop
-register-requires c κs = search needs
+object-requires : tie.Need-object-requires Inv-loop μ-loop
+object-requires c κs = search needs
 
 new-requires : tie.Need-new-requires Inv-loop μ-loop
 new-requires c κs = search needs
@@ -48,7 +48,7 @@ timing-feed-spec =
     (tie.spec
     Inv-loop
     μ-loop
-    register-requires
+    object-requires
     new-requires
     feed-requires
     loop-holds

@@ -1,12 +1,14 @@
+-- The tester is made of the header's object, and fed with the events behind it.
 use mathlib.Core.Path.{refl, ap, _∙_}
 use borrow.Author.Needs.{needs}
 use Rattle.recording.specs.declared.linearizability.New.{New}
-use Rattle.reading.specs.Models.{linearizabilityModel}
-use Rattle.corpus.specs.Format.{header}
-use Rattle.corpus.specs.Answers.{asLinearizability}
-use Rattle.corpus.specs.Taking.{first-in}
-use Rattle.corpus.specs.Lengths.{header-field, header-short}
-use Rattle.corpus.proofs.Answered.{header-got, header-refused}
+use Rattle.recording_meaning.specs.Models.{linearizabilityModel}
+use Rattle.format.specs.Format.{header}
+use Rattle.corpus.specs.LoadAnswers.{asLinearizability}
+use Rattle.format.specs.Taking.{first-in}
+use Rattle.format.specs.FileSays.{header-clear}
+use Rattle.format.specs.Lengths.{header-field, header-short}
+use Rattle.format.specs.Answered.{header-got, header-refused}
 use Rattle.corpus.proofs.Loading.{load-refused, load-fed}
 use Rattle.corpus.proofs.linearizability.load.Statement.{statement}
 use Rattle.corpus.proofs.linearizability.load.Tie as tie
@@ -31,7 +33,7 @@ feed-requires c κs =
     let file = c .before .before .before .before .before .before .before .before .before .before .args .file .now in
     let head = header-got (header file) (c .before .before .before .before .before .before .before .before .read-header .ensures) (c .before .before .before .begins2 .given .1) in
     let fresh = ap (λ (y : New). y .tester) (c .before .before .before .before .before .before .new .ensures) in
-    (record { start = _; of-kind = refl; new = fresh }, (first-in header 6 header-field file _ _ head .1, header-short file _ _ head))
+    (record { start = _; of-kind = refl; clear = header-clear file _ _ head; new = fresh }, (first-in header 6 header-field file _ _ head .1, header-short file _ _ head))
 
 returns : tie.Need-returns
 returns c =

@@ -1,9 +1,10 @@
+-- The history that the other loader holds, without its notes.
 use mathlib.Core.Path.{sym, ap, _∙_}
 use borrow.Author.Needs.{needs}
 use Rattle.recording.specs.Testers.{sequential}
 use Rattle.corpus.specs.declared.linearizability.Loaded.{Loaded}
-use Rattle.corpus.specs.Answers.{asSequential}
-use Rattle.corpus.specs.Alike.{loads-alike}
+use Rattle.corpus.specs.LoadAnswers.{asSequential}
+use Rattle.corpus.specs.LoadsAlike.{loads-alike}
 use Rattle.corpus.proofs.sequential_consistency.load.Statement.{statement}
 use Rattle.corpus.proofs.sequential_consistency.load.Tie as tie
 

@@ -1,7 +1,8 @@
+-- Each byte of the answer is laid at its place, and those behind keep theirs.
 use mathlib.Core.Path.{_≡_}
 use lib.ListN.{length}
 use borrow.Author.Needs.{needs}
-use Rattle.semantics.specs.Sizes.{capacity}
+use Rattle.families.specs.Sizes.{capacity}
 use Rattle.host.proofs.Laying.{laid}
 use Rattle.host.proofs.bytes.lay.Statement.{statement}
 use Rattle.host.proofs.bytes.lay.Tie as tie

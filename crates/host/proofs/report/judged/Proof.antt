@@ -1,7 +1,8 @@
+-- What the judge answers is told field by field.
 use native.Mathlib.Omega.{arith}
 use borrow.Author.Needs.{needs}
-use Rattle.semantics.specs.Sizes.{capacity}
-use Rattle.recording.proofs.Laws.{unmapped}
+use Rattle.families.specs.Sizes.{capacity}
+use Rattle.recording.specs.RecordLaws.{unmapped}
 use Rattle.host.specs.Call.{judgedReport}
 use Rattle.host.proofs.report.judged.Statement.{statement}
 use Rattle.host.proofs.report.judged.Tie as tie

@@ -1,9 +1,10 @@
+-- A file that loads is judged, and one that does not is told by its number.
 use mathlib.Core.Path.{sym, ap, _∙_}
 use borrow.Author.Needs.{needs}
-use Rattle.reading.specs.Models.{sequentialModel}
+use Rattle.recording_meaning.specs.Models.{sequentialModel}
 use Rattle.host.specs.Call.{judgedReport}
 use Rattle.host.specs.Ordered.{ordered, length-within}
-use Rattle.host.specs.Meant.{is-judged, is-refused}
+use Rattle.host.specs.CallMeant.{is-judged, is-refused}
 use Rattle.host.proofs.report.report_sequential_consistency.Statement.{statement}
 use Rattle.host.proofs.report.report_sequential_consistency.Tie as tie
 

@@ -1,8 +1,9 @@
+-- The threads of the places taken come first, and nobody behind them.
 use Prim.Native.Nat.{_-_}
 use mathlib.Core.Path.{refl}
 use native.Mathlib.Omega.{arith}
 use borrow.Author.Needs.{needs}
-use Rattle.semantics.specs.Sizes.{capacity}
+use Rattle.families.specs.Sizes.{capacity}
 use Rattle.host.proofs.Threading.{Filled, filled-more, filled-end}
 use Rattle.host.proofs.report.threads_of.Statement.{statement}
 use Rattle.host.proofs.report.threads_of.Tie as tie

@@ -1,3 +1,4 @@
+-- The sum of the counts so far, and of those to come, is the sum of all.
 use Prim.Native.Nat.{_+_, _*_, _≤_, _-_}
 use mathlib.Core.Path.{_≡_}
 use lib.ListN.{length, getD, drop}
@@ -5,7 +6,7 @@ use mir.Syntax.{w8}
 use mir.Val.{Fits}
 use native.Mathlib.Omega.{arith}
 use borrow.Author.Needs.{needs}
-use Rattle.semantics.specs.Sizes.{threads}
+use Rattle.families.specs.Sizes.{threads}
 use Rattle.judging.specs.Places.{sumOf}
 use Rattle.judging.proofs.Indexing.{sum-more, sum-end}
 use Rattle.judging.proofs.index.completed.Statement.{statement}

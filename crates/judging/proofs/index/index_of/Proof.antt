@@ -1,12 +1,13 @@
+-- Each operation takes the next slot of its thread.
 use Prim.Native.Nat.{_*_, _-_}
 use mathlib.Core.Path.{refl}
 use lib.ListN.{replicate}
 use native.Mathlib.Omega.{arith}
 use borrow.Author.Needs.{needs}
-use Rattle.semantics.specs.Sizes.{threads, capacity}
-use Rattle.recording.proofs.Laws.{unmapped}
-use Rattle.reading.specs.Reading.{Sized}
-use Rattle.reading.specs.ShapeExactly.{shape-exactly}
+use Rattle.families.specs.Sizes.{threads, capacity}
+use Rattle.recording.specs.RecordLaws.{unmapped}
+use Rattle.recording_meaning.specs.Reading.{Sized}
+use Rattle.recording_meaning.specs.ShapeExactly.{shape-exactly}
 use Rattle.judging.proofs.Indexing.{Built, built-start, own-low, k-few, slot-fits, built-more, built-end}
 use Rattle.judging.proofs.index.index_of.Statement.{statement}
 use Rattle.judging.proofs.index.index_of.Tie as tie

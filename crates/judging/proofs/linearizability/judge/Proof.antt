@@ -1,10 +1,11 @@
+-- A record in shape and valid is searched, and any other is Invalid.
 use mathlib.Core.Path.{refl, sym, _∙_}
 use mathlib.Core.Logic.{⊎-elim}
 use mathlib.Core.Bool.{true, false}
 use borrow.Author.Needs.{needs}
 use Rattle.recording.specs.Shape.{shapeOf, notesShaped}
-use Rattle.reading.specs.Parts.{pick-right}
-use Rattle.reading.specs.Models.{linearizabilityModel}
+use Rattle.recording_meaning.specs.Parts.{pick-right}
+use Rattle.recording_meaning.specs.Models.{linearizabilityModel}
 use Rattle.judging.proofs.Answering.{judge-by}
 use Rattle.judging.proofs.linearizability.judge.Statement.{statement}
 use Rattle.judging.proofs.linearizability.judge.Tie as tie

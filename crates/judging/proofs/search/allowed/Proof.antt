@@ -1,10 +1,11 @@
+-- The notes are met if each thread's is.
 use Prim.Native.Nat.{ℕ, _≤_, _<_, _-_}
 use mathlib.Core.Path.{sym}
 use lib.ListN.{getD}
 use native.Mathlib.Omega.{arith}
 use borrow.Author.Needs.{needs}
 use borrow.Author.Count.{below-more}
-use Rattle.semantics.specs.Sizes.{threads}
+use Rattle.families.specs.Sizes.{threads}
 use Rattle.recording.specs.Shape.{noteAt}
 use Rattle.judging.proofs.Noting.{notes-met, note-unmet}
 use Rattle.judging.proofs.search.allowed.Statement.{statement}

@@ -1,10 +1,11 @@
+-- Placing the path once more from the start gives each place its return.
 use Prim.Native.Nat.{_-_}
 use mathlib.Core.Path.{_≡_}
 use lib.ListN.{length}
 use native.Mathlib.Omega.{arith}
 use borrow.Author.Needs.{needs}
-use Rattle.semantics.specs.Sizes.{capacity}
-use Rattle.reading.specs.Parts.{parts-of}
+use Rattle.families.specs.Sizes.{capacity}
+use Rattle.recording_meaning.specs.Parts.{parts-of}
 use Rattle.judging.specs.Playing.{situation}
 use Rattle.judging.proofs.Replaying.{Replaying, replay-start, own-low, p-few, slot-fits, at-low, replay-more, replay-end}
 use Rattle.judging.proofs.search.order_of.Statement.{statement}

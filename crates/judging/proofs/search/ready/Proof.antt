@@ -1,9 +1,10 @@
+-- No thread that is passed over has anything left to place.
 use Prim.Native.Nat.{ℕ, _≤_, _<_, _-_}
 use lib.ListN.{getD}
 use native.Mathlib.Omega.{arith}
 use borrow.Author.Needs.{needs}
 use borrow.Author.Count.{below-more}
-use Rattle.semantics.specs.Sizes.{threads}
+use Rattle.families.specs.Sizes.{threads}
 use Rattle.judging.proofs.search.ready.Statement.{statement}
 use Rattle.judging.proofs.search.ready.Tie as tie
 

@@ -1,13 +1,14 @@
+-- Each turn goes where the machine of the walk goes: placed, turned away, or back over a level.
 use borrow.Author.Needs.{needs}
 use Prim.Native.Nat.{_+_, _*_, _-_}
 use mathlib.Core.Path.{_≡_, refl, sym, _∙_}
 use lib.ListN.{length, length-map}
 use native.Mathlib.Omega.{arith}
-use Rattle.semantics.specs.Sizes.{room}
-use Rattle.reading.specs.Reading.{Sized, notesOf}
+use Rattle.families.specs.Sizes.{room}
+use Rattle.recording_meaning.specs.Reading.{Sized, notesOf}
 use Rattle.judging.specs.Playing.{situation}
-use Rattle.judging.specs.Running.{Running, running-start, fits, next-small, depth-small, within, found, exhausted, progress-small, slot-at, here-small, used, turn-early, turn-wrong}
-use Rattle.judging.specs.Turns.{deeper, left-enough, turn-placed, back-low, back-some, turn-undone}
+use Rattle.judging.specs.SearchRunning.{Running, running-start, fits, next-small, depth-small, within, found, exhausted, progress-small, slot-at, here-small, used, turn-early, turn-wrong}
+use Rattle.judging.specs.SearchTurns.{deeper, left-enough, turn-placed, back-low, back-some, turn-undone}
 use Rattle.judging.proofs.search.run.Statement.{statement}
 use Rattle.judging.proofs.search.run.Tie as tie
 

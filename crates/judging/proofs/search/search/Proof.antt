@@ -1,8 +1,9 @@
+-- The loop stops as the walk does, and an order is shown with its returns.
 use mathlib.Core.Path.{_≡_, refl, ap, _∙_}
 use lib.ListN.{length}
 use borrow.Author.Needs.{needs}
-use Rattle.semantics.specs.Sizes.{capacity}
-use Rattle.reading.specs.Reading.{notesOf}
+use Rattle.families.specs.Sizes.{capacity}
+use Rattle.recording_meaning.specs.Reading.{notesOf}
 use Rattle.judging.specs.Answers.{isConsistent, judgedOf}
 use Rattle.judging.proofs.Answering.{stopped-order, stopped-with, stopped-without}
 use Rattle.judging.proofs.search.search.Statement.{statement}

@@ -1,10 +1,11 @@
+-- A record in shape and valid is searched with notes that ask for nothing, and any other is Invalid.
 use Prim.Native.Nat.{_*_}
 use mathlib.Core.Path.{refl, sym, ap, _∙_}
 use mathlib.Core.Logic.{⊎-elim}
 use mathlib.Core.Bool.{true, false}
 use borrow.Author.Needs.{needs}
-use Rattle.semantics.specs.Sizes.{threads, capacity}
-use Rattle.reading.specs.Models.{sequentialModel}
+use Rattle.families.specs.Sizes.{threads, capacity}
+use Rattle.recording_meaning.specs.Models.{sequentialModel}
 use Rattle.judging.specs.Answers.{toldOf}
 use Rattle.judging.specs.Unnoted.{zeros-ask-nothing}
 use Rattle.judging.proofs.Answering.{judge-by}

@@ -1,5 +1,6 @@
+-- An object that can be started with is, and else its default is.
 use borrow.Author.Needs.{needs}
-use Rattle.recording.specs.Events.{begunOf}
+use Rattle.recording.specs.EventSteps.{begunOf}
 use Rattle.recording.proofs.consistency_tester.begin.Statement.{statement}
 use Rattle.recording.proofs.consistency_tester.begin.Tie as tie
 
@@ -12,29 +13,22 @@ enum-told c = search needs
 empty-requires : tie.Need-empty-requires
 empty-requires c κs = search needs
 
-enum-told-2 : tie.Need-enum-told-2
-enum-told-2 c = search needs
+enum-known-refusal : tie.Need-enum-known-refusal
+enum-known-refusal c = search needs
 
-empty-stack-requires : tie.Need-empty-stack-requires
-empty-stack-requires c κs = search needs
+stand-in-requires : tie.Need-stand-in-requires
+stand-in-requires c κs = search needs
 
-enum-told-3 : tie.Need-enum-told-3
-enum-told-3 c = search needs
-
-empty-stack-requires-2 : tie.Need-empty-stack-requires-2
-empty-stack-requires-2 c κs = search needs
+empty-requires-2 : tie.Need-empty-requires-2
+empty-requires-2 c κs = search needs
 
 returns : tie.Need-returns
 unfolding begunOf
-returns c = simp (← c .empty .ensures, ← c .before .before .before .check-start .ensures, c .before .enum-told .given .1)
+returns c = simp (c .empty .ensures, ← c .before .before .before .check-start .ensures, c .before .enum-told .given .1)
 
 returns-2 : tie.Need-returns-2
 unfolding begunOf
-returns-2 c = simp (c .empty-stack .ensures, ← c .before .before .before .check-start .ensures, c .before .enum-told2 .given .1)
-
-returns-3 : tie.Need-returns-3
-unfolding begunOf
-returns-3 c = simp (c .empty-stack2 .ensures, ← c .before .before .before .check-start .ensures, c .before .enum-told3 .given .1)
+returns-2 c = simp (c .empty2 .ensures, c .before .stand-in .ensures, ← c .before .before .before .before .before .check-start .ensures, c .before .before .before .refusal .given .1)
 
 pub begin-spec : {M : Type 1} → statement M
 begin-spec =
@@ -43,10 +37,8 @@ begin-spec =
     check-start-requires
     enum-told
     empty-requires
-    enum-told-2
-    empty-stack-requires
-    enum-told-3
-    empty-stack-requires-2
+    enum-known-refusal
+    stand-in-requires
+    empty-requires-2
     returns
-    returns-2
-    returns-3)
+    returns-2)

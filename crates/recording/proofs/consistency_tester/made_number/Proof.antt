@@ -1,16 +1,17 @@
+-- A refused start has the number of the object's refusal.
 use borrow.Author.Needs.{needs}
-use Rattle.recording.specs.Events.{madeNumberOf}
+use Rattle.recording.specs.EventSteps.{madeNumberOf}
 use Rattle.recording.proofs.consistency_tester.made_number.Statement.{statement}
 use Rattle.recording.proofs.consistency_tester.made_number.Tie as tie
 
 enum-told : tie.Need-enum-told
 enum-told c = search needs
 
-enum-told-2 : tie.Need-enum-told-2
-enum-told-2 c = search needs
+enum-known-made : tie.Need-enum-known-made
+enum-known-made c = search needs
 
-enum-told-3 : tie.Need-enum-told-3
-enum-told-3 c = search needs
+number-requires : tie.Need-number-requires
+number-requires c κs = search needs
 
 returns : tie.Need-returns
 unfolding madeNumberOf
@@ -18,12 +19,7 @@ returns c = simp (c .enum-told .given .1)
 
 returns-2 : tie.Need-returns-2
 unfolding madeNumberOf
-returns-2 c = simp (c .enum-told2 .given .1)
-
-returns-3 : tie.Need-returns-3
-unfolding madeNumberOf
-returns-3 c = simp (c .enum-told3 .given .1)
+returns-2 c = simp (c .number .ensures, c .before .before .made .given .1)
 
 pub made-number-spec : {M : Type 1} → statement M
-made-number-spec =
-    tie.close (tie.spec enum-told enum-told-2 enum-told-3 returns returns-2 returns-3)
+made-number-spec = tie.close (tie.spec enum-told enum-known-made number-requires returns returns-2)

@@ -1,8 +1,9 @@
+-- A record out of shape has no operations.
 use Prim.Native.Nat.{_-_}
 use mathlib.Core.Path.{sym, _∙_}
 use borrow.Author.Needs.{needs}
 use Rattle.recording.specs.Shape.{shapedWith}
-use Rattle.recording.proofs.Admitting.{size-yes, size-no}
+use Rattle.recording.specs.Admitting.{size-yes, size-no}
 use Rattle.recording.proofs.consistency_tester.size.Statement.{statement}
 use Rattle.recording.proofs.consistency_tester.size.Tie as tie
 

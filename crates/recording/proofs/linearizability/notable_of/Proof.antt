@@ -1,3 +1,4 @@
+-- Of its own thread an operation can note nothing.
 use borrow.Author.Tests.{eq-eqb, ne-eqb}
 use Rattle.recording.specs.Shape.{notable}
 use Rattle.recording.proofs.linearizability.notable_of.Statement.{statement}

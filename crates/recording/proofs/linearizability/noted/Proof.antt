@@ -1,13 +1,14 @@
+-- What is left of the notes fits exactly if all do.
 use Prim.Native.Nat.{_≤_, _-_}
 use mathlib.Core.Path.{_≡_, refl, sym, _∙_}
 use native.Mathlib.Omega.{arith}
 use lib.ListN.{drop, length}
 use borrow.Author.Needs.{needs}
 use borrow.Author.Tests.{lt-leb}
-use Rattle.semantics.specs.Sizes.{capacity}
+use Rattle.families.specs.Sizes.{capacity}
 use Rattle.recording.specs.Record.{held}
 use Rattle.recording.specs.Shape.{notesFitFrom, notesShaped}
-use Rattle.recording.proofs.Laws.{unmapped, notes-yes, notes-no, notes-end, notes-all}
+use Rattle.recording.specs.RecordLaws.{unmapped, notes-yes, notes-no, notes-end, notes-all}
 use Rattle.recording.proofs.linearizability.noted.Statement.{statement}
 use Rattle.recording.proofs.linearizability.noted.Tie as tie
 

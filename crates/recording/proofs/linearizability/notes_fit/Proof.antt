@@ -1,3 +1,4 @@
+-- Each thread's note is held to what it can be.
 use Prim.Native.Nat.{ℕ, _≤_, _-_}
 use mathlib.Core.Bool.{Bool, true}
 use mathlib.Core.Path.{_≡_, refl, sym, ap, _∙_}
@@ -5,9 +6,9 @@ use lib.Dec.{leb}
 use lib.ListN.{getD}
 use borrow.Author.Needs.{needs}
 use borrow.Author.Tests.{lt-leb, le-leb}
-use Rattle.semantics.specs.Sizes.{threads}
+use Rattle.families.specs.Sizes.{threads}
 use Rattle.recording.specs.Shape.{allBelow, noteAt, notable, notesFit}
-use Rattle.recording.proofs.Laws.{below-no, below-more, below-end}
+use Rattle.recording.specs.RecordLaws.{below-no, below-more, below-end}
 use Rattle.recording.proofs.linearizability.notes_fit.Statement.{statement}
 use Rattle.recording.proofs.linearizability.notes_fit.Tie as tie
 

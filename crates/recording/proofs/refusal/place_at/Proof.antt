@@ -1,3 +1,4 @@
+-- By cases.
 use borrow.Author.Needs.{needs}
 use Rattle.recording.specs.Pass.{placeAt}
 use Rattle.recording.proofs.refusal.place_at.Statement.{statement}

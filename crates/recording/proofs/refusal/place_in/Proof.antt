@@ -1,3 +1,4 @@
+-- A thread that there is has its mark.
 use mathlib.Core.Path.{_∙_}
 use borrow.Author.Needs.{needs}
 use borrow.Author.Tests.{le-ltb, lt-ltb}

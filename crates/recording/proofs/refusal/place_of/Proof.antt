@@ -1,3 +1,4 @@
+-- A mark of 0 says nothing, any other the place below it.
 use borrow.Author.Needs.{needs}
 use borrow.Author.Tests.{eq-eqb, ne-eqb}
 use Rattle.recording.specs.Pass.{placeOf}

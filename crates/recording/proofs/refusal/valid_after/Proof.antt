@@ -1,81 +1,31 @@
+-- Only a reason that breaks turns validity off.
+use mathlib.Core.Path.{sym, _∙_}
 use borrow.Author.Needs.{needs}
-use Rattle.recording.specs.Pass.{validAfter}
+use Rattle.recording.specs.EventSteps.{validAfter}
 use Rattle.recording.proofs.refusal.valid_after.Statement.{statement}
 use Rattle.recording.proofs.refusal.valid_after.Tie as tie
 
 enum-told : tie.Need-enum-told
 enum-told c = search needs
 
-enum-told-2 : tie.Need-enum-told-2
-enum-told-2 c = search needs
+enum-known-recorded : tie.Need-enum-known-recorded
+enum-known-recorded c = search needs
 
-enum-told-3 : tie.Need-enum-told-3
-enum-told-3 c = search needs
-
-enum-told-4 : tie.Need-enum-told-4
-enum-told-4 c = search needs
-
-enum-told-5 : tie.Need-enum-told-5
-enum-told-5 c = search needs
-
-enum-told-6 : tie.Need-enum-told-6
-enum-told-6 c = search needs
-
-enum-told-7 : tie.Need-enum-told-7
-enum-told-7 c = search needs
-
-enum-told-8 : tie.Need-enum-told-8
-enum-told-8 c = search needs
+breaks-requires : tie.Need-breaks-requires
+breaks-requires c κs = search needs
 
 returns : tie.Need-returns
 unfolding validAfter
-returns c = simp (c .enum-told .given .1)
+returns c = simp (sym (c .before .breaks .ensures) ∙ c .if1 .taken, c .before .before .before .recorded .given .1)
 
 returns-2 : tie.Need-returns-2
 unfolding validAfter
-returns-2 c = simp (c .enum-told2 .given .1)
+returns-2 c = simp (c .enum-told .given .1)
 
 returns-3 : tie.Need-returns-3
 unfolding validAfter
-returns-3 c = simp (c .enum-told3 .given .1)
-
-returns-4 : tie.Need-returns-4
-unfolding validAfter
-returns-4 c = simp (c .enum-told4 .given .1)
-
-returns-5 : tie.Need-returns-5
-unfolding validAfter
-returns-5 c = simp (c .enum-told5 .given .1)
-
-returns-6 : tie.Need-returns-6
-unfolding validAfter
-returns-6 c = simp (c .enum-told6 .given .1)
-
-returns-7 : tie.Need-returns-7
-unfolding validAfter
-returns-7 c = simp (c .enum-told7 .given .1)
-
-returns-8 : tie.Need-returns-8
-unfolding validAfter
-returns-8 c = simp (c .enum-told8 .given .1)
+returns-3 c = simp (sym (c .before .breaks .ensures) ∙ c .if1 .left, c .before .before .before .recorded .given .1)
 
 pub valid-after-spec : {M : Type 1} → statement M
 valid-after-spec =
-    tie.close
-    (tie.spec
-    enum-told
-    enum-told-2
-    enum-told-3
-    enum-told-4
-    enum-told-5
-    enum-told-6
-    enum-told-7
-    enum-told-8
-    returns
-    returns-2
-    returns-3
-    returns-4
-    returns-5
-    returns-6
-    returns-7
-    returns-8)
+    tie.close (tie.spec enum-told enum-known-recorded breaks-requires returns returns-2 returns-3)

@@ -1,9 +1,10 @@
+-- An operation that fits is marked in flight or counted among those still to come.
 use Prim.Native.Nat.{_-_}
 use mathlib.Core.Path.{sym, _∙_}
 use borrow.Author.Needs.{needs}
 use borrow.Author.Tests.{eq-eqb, ne-eqb}
 use Rattle.recording.specs.Pass.{goesOn, countsIn, leftAfter, flyingAfter}
-use Rattle.recording.proofs.Laws.{never}
+use Rattle.recording.specs.RecordLaws.{never}
 use Rattle.recording.proofs.Looking.{fits-known}
 use Rattle.recording.proofs.shape.count_in.Statement.{statement}
 use Rattle.recording.proofs.shape.count_in.Tie as tie
@@ -17,7 +18,7 @@ cast-own c = search needs
 element-copy-out-mark : tie.Need-element-copy-out-mark
 element-copy-out-mark c =
     let fits = sym (c .before .before .operation-fits .ensures) ∙ c .before .if1 .taken in
-    let thread = fits-known (c .before .before .before .args .family) _ fits in
+    let thread = fits-known (c .before .before .before .args .kind) _ fits in
     thread
 
 enum-told : tie.Need-enum-told
@@ -33,7 +34,7 @@ element-write-flying : tie.Need-element-write-flying
 element-write-flying c =
     let fits = sym (c .before .before .before .before .before .before .operation-fits .ensures)
     ∙ c .before .before .before .before .before .if1 .taken in
-    let thread = fits-known (c .before .before .before .before .before .before .before .args .family) _ fits in
+    let thread = fits-known (c .before .before .before .before .before .before .before .args .kind) _ fits in
     thread
 
 returns : tie.Need-returns
@@ -52,7 +53,7 @@ element-copy-out-more : tie.Need-element-copy-out-more
 element-copy-out-more c =
     let fits = sym (c .before .before .before .before .before .before .operation-fits .ensures)
     ∙ c .before .before .before .before .before .if1 .taken in
-    let thread = fits-known (c .before .before .before .before .before .before .before .args .family) _ fits in
+    let thread = fits-known (c .before .before .before .before .before .before .before .args .kind) _ fits in
     thread
 
 returns-2 : tie.Need-returns-2
@@ -71,7 +72,7 @@ element-write-left : tie.Need-element-write-left
 element-write-left c =
     let fits = sym (c .before .before .before .before .before .before .before .before .operation-fits .ensures)
     ∙ c .before .before .before .before .before .before .before .if1 .taken in
-    let thread = fits-known (c .before .before .before .before .before .before .before .before .before .args .family) _ fits in
+    let thread = fits-known (c .before .before .before .before .before .before .before .before .before .args .kind) _ fits in
     thread
 
 returns-3 : tie.Need-returns-3

@@ -1,3 +1,4 @@
+-- No thread from the first on has anything left.
 use Prim.Native.Nat.{ℕ, _≤_, _-_}
 use mathlib.Core.Bool.{Bool, true}
 use mathlib.Core.Path.{_≡_, refl, sym}
@@ -5,10 +6,10 @@ use lib.Dec.{eqb}
 use lib.ListN.{getD}
 use borrow.Author.Needs.{needs}
 use borrow.Author.Tests.{eq-eqb, ne-eqb}
-use Rattle.semantics.specs.Sizes.{threads}
+use Rattle.families.specs.Sizes.{threads}
 use Rattle.recording.specs.Pass.{noneLeft}
 use Rattle.recording.specs.Shape.{allBelow}
-use Rattle.recording.proofs.Laws.{below-no, below-more, below-end}
+use Rattle.recording.specs.RecordLaws.{below-no, below-more, below-end}
 use Rattle.recording.proofs.shape.none_left.Statement.{statement}
 use Rattle.recording.proofs.shape.none_left.Tie as tie
 

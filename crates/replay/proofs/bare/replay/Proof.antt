@@ -12,8 +12,8 @@ Inv-loop text counts₀ line₀ object₀ family₀ at₀ counts line object fam
 abbrev μ-loop : tie.MeasureT-loop
 μ-loop text counts₀ line₀ object₀ family₀ at₀ counts line object family at = length text - at
 
-default-register-requires : tie.Need-default-register-requires Inv-loop μ-loop
-default-register-requires c κs = search needs
+blank-requires : tie.Need-blank-requires Inv-loop μ-loop
+blank-requires c κs = search needs
 
 loop-holds : tie.Need-loop-holds Inv-loop μ-loop
 loop-holds c = search needs
@@ -63,7 +63,7 @@ replay-spec =
     (tie.spec
     Inv-loop
     μ-loop
-    default-register-requires
+    blank-requires
     loop-holds
     line-end-requires
     slice-aggregate-read

@@ -1,7 +1,7 @@
 -- `replay::objects::items_at` is safe and ends. The invariant: the storage keeps its length. The measure is the number of places left.
 use mathlib.Core.Path.{_≡_}
 use Prim.Native.Nat.{_-_}
-use Rattle.semantics.specs.Sizes.{room}
+use Rattle.families.specs.Sizes.{room}
 use borrow.Author.Needs.{needs}
 use lib.ListN.{length}
 use Rattle.replay.proofs.objects.items_at.Statement.{statement}
@@ -16,8 +16,8 @@ abbrev μ-loop : tie.MeasureT-loop
 loop-holds : tie.Need-loop-holds Inv-loop μ-loop
 loop-holds c = search needs
 
-value-or-zero-requires : tie.Need-value-or-zero-requires Inv-loop μ-loop
-value-or-zero-requires c κs = search needs
+item-at-requires : tie.Need-item-at-requires Inv-loop μ-loop
+item-at-requires c κs = search needs
 
 mul-items : tie.Need-mul-items Inv-loop μ-loop
 mul-items c = search needs
@@ -44,7 +44,7 @@ items-at-spec =
     Inv-loop
     μ-loop
     loop-holds
-    value-or-zero-requires
+    item-at-requires
     mul-items
     array-set-from-items
     add-i

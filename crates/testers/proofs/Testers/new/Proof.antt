@@ -1,5 +1,5 @@
 -- `testers::Testers::new` hands back what both constructors do.
-use Rattle.testers.specs.Calls.{newOf}
+use Rattle.testers.specs.PairedCalls.{newOf}
 use borrow.Author.Needs.{needs}
 use Rattle.testers.proofs.Testers.new.Statement.{statement}
 use Rattle.testers.proofs.Testers.new.Tie as tie

@@ -1,5 +1,5 @@
 -- `testers::Testers::on_invoke` hands back what both testers do.
-use Rattle.testers.specs.Calls.{invokeOf}
+use Rattle.testers.specs.PairedCalls.{invokeOf}
 use borrow.Author.Needs.{needs}
 use Rattle.testers.proofs.Testers.on_invoke.Statement.{statement}
 use Rattle.testers.proofs.Testers.on_invoke.Tie as tie

@@ -1,5 +1,5 @@
 -- `testers::Testers::on_invret` hands back what both testers do.
-use Rattle.testers.specs.Calls.{invretOf}
+use Rattle.testers.specs.PairedCalls.{invretOf}
 use borrow.Author.Needs.{needs}
 use Rattle.testers.proofs.Testers.on_invret.Statement.{statement}
 use Rattle.testers.proofs.Testers.on_invret.Tie as tie

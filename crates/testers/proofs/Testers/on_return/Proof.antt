@@ -1,5 +1,5 @@
 -- `testers::Testers::on_return` hands back what both testers do.
-use Rattle.testers.specs.Calls.{returnOf}
+use Rattle.testers.specs.PairedCalls.{returnOf}
 use borrow.Author.Needs.{needs}
 use Rattle.testers.proofs.Testers.on_return.Statement.{statement}
 use Rattle.testers.proofs.Testers.on_return.Tie as tie

@@ -6,13 +6,13 @@ use Rattle.timing.proofs.events.fed.Statement.{statement}
 use Rattle.timing.proofs.events.fed.Tie as tie
 
 abbrev Inv-loop : tie.InvT-loop
-Inv-loop is-stack events testers₀ i₀ testers i = Unit
+Inv-loop number events kind testers₀ i₀ testers i = Unit
 
 abbrev μ-loop : tie.MeasureT-loop
-μ-loop is-stack events testers₀ i₀ testers i = length events - i
+μ-loop number events kind testers₀ i₀ testers i = length events - i
 
-start-requires : tie.Need-start-requires Inv-loop μ-loop
-start-requires c κs = search needs
+object-requires : tie.Need-object-requires Inv-loop μ-loop
+object-requires c κs = search needs
 
 new-requires : tie.Need-new-requires Inv-loop μ-loop
 new-requires c κs = search needs
@@ -56,7 +56,7 @@ fed-spec =
     (tie.spec
     Inv-loop
     μ-loop
-    start-requires
+    object-requires
     new-requires
     loop-holds
     shared-slice-read-first

@@ -6,10 +6,10 @@ use Rattle.wall.proofs.calls.fed.Statement.{statement}
 use Rattle.wall.proofs.calls.fed.Tie as tie
 
 abbrev Inv-loop : tie.InvT-loop
-Inv-loop start events testers₀ i₀ testers i = Unit
+Inv-loop number events kind testers₀ i₀ testers i = Unit
 
 abbrev μ-loop : tie.MeasureT-loop
-μ-loop start events testers₀ i₀ testers i = length events - i
+μ-loop number events kind testers₀ i₀ testers i = length events - i
 
 object-requires : tie.Need-object-requires Inv-loop μ-loop
 object-requires c κs = search needs

@@ -6,10 +6,10 @@ use Rattle.wall.proofs.running.judged.Statement.{statement}
 use Rattle.wall.proofs.running.judged.Tie as tie
 
 abbrev Inv-loop : tie.InvT-loop
-Inv-loop title start events budget i₀ t6 i = Unit
+Inv-loop title number events budget i₀ t6 i = Unit
 
 abbrev μ-loop : tie.MeasureT-loop
-μ-loop title start events budget i₀ t6 i = length events - i
+μ-loop title number events budget i₀ t6 i = length events - i
 
 say-requires : tie.Need-say-requires Inv-loop μ-loop
 say-requires c κs = search needs

@@ -6,10 +6,13 @@ use Rattle.wall.proofs.running.recorded.Statement.{statement}
 use Rattle.wall.proofs.running.recorded.Tie as tie
 
 abbrev Inv-loop : tie.InvT-loop
-Inv-loop title before events register testers₀ i₀ testers i = Unit
+Inv-loop title before events kind testers₀ i₀ testers i = Unit
 
 abbrev μ-loop : tie.MeasureT-loop
-μ-loop title before events register testers₀ i₀ testers i = length events - i
+μ-loop title before events kind testers₀ i₀ testers i = length events - i
+
+object-requires : tie.Need-object-requires Inv-loop μ-loop
+object-requires c κs = search needs
 
 say-requires : tie.Need-say-requires Inv-loop μ-loop
 say-requires c κs = search needs
@@ -53,6 +56,7 @@ recorded-spec =
     (tie.spec
     Inv-loop
     μ-loop
+    object-requires
     say-requires
     fed-requires
     loop-holds

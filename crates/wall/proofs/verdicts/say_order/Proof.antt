@@ -1,15 +1,15 @@
 -- `wall::verdicts::say_order` is safe and ends. The measure is the number of places left.
 use Prim.Native.Nat.{_-_}
-use Rattle.semantics.specs.Sizes.{capacity}
+use Rattle.families.specs.Sizes.{capacity}
 use borrow.Author.Needs.{needs}
 use Rattle.wall.proofs.verdicts.say_order.Statement.{statement}
 use Rattle.wall.proofs.verdicts.say_order.Tie as tie
 
 abbrev Inv-loop : tie.InvT-loop
-Inv-loop answer length i₀ t7 i = Unit
+Inv-loop number answer length i₀ t7 i = Unit
 
 abbrev μ-loop : tie.MeasureT-loop
-μ-loop answer length i₀ t7 i = capacity - i
+μ-loop number answer length i₀ t7 i = capacity - i
 
 slice-aggregate-say : tie.Need-slice-aggregate-say Inv-loop μ-loop
 slice-aggregate-say c = search needs

@@ -1,13 +1,14 @@
+-- A record in shape and valid has its order replayed, and any other gets no.
 use Prim.Native.Nat.{_≤_}
 use mathlib.Core.Path.{_≡_, sym, _∙_}
 use lib.ListN.{length}
 use borrow.Author.Needs.{needs}
-use Rattle.semantics.specs.Sizes.{threads, capacity, room}
+use Rattle.families.specs.Sizes.{threads, capacity, room}
 use Rattle.recording.specs.Shape.{shapeOf, notesShaped}
-use Rattle.reading.specs.Reading.{Sized}
-use Rattle.reading.specs.Parts.{pick-right, parts-of}
-use Rattle.reading.specs.Models.{linearizabilityModel}
-use Rattle.recording.proofs.Laws.{unmapped}
+use Rattle.recording_meaning.specs.Reading.{Sized}
+use Rattle.recording_meaning.specs.Parts.{pick-right, parts-of}
+use Rattle.recording_meaning.specs.Models.{linearizabilityModel}
+use Rattle.recording.specs.RecordLaws.{unmapped}
 use Rattle.witness.proofs.Endings.{notes-met}
 use Rattle.witness.proofs.Checks.{check-unshaped, check-invalid, check-replayed}
 use Rattle.witness.proofs.linearizability.check.Statement.{statement}

@@ -1,5 +1,5 @@
 use borrow.Author.Needs.{needs}
-use Rattle.witness.specs.Playing.{answeredOf}
+use Rattle.witness.specs.WordsPlayed.{answeredOf}
 use Rattle.witness.proofs.replay.answered.Statement.{statement}
 use Rattle.witness.proofs.replay.answered.Tie as tie
 

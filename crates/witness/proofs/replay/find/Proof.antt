@@ -1,11 +1,12 @@
+-- What is left of the operations has the one that is looked for, at so many fewer of its thread.
 use Prim.Native.Nat.{ℕ, _+_, _≤_, _-_}
 use mathlib.Core.Path.{_≡_, sym, subst}
 use mathlib.Core.Logic.{⊎-elim}
 use native.Mathlib.Omega.{arith}
 use lib.ListN.{length}
 use borrow.Author.Needs.{needs}
-use Rattle.semantics.specs.Sizes.{capacity}
-use Rattle.recording.proofs.Laws.{unmapped}
+use Rattle.families.specs.Sizes.{capacity}
+use Rattle.recording.specs.RecordLaws.{unmapped}
 use Rattle.witness.proofs.Finding.{Finding, find-start, found, find-own, find-other, find-end}
 use Rattle.witness.proofs.replay.find.Statement.{statement}
 use Rattle.witness.proofs.replay.find.Tie as tie

@@ -1,11 +1,12 @@
+-- A place that is no operation's, or comes too early, is wrong; else the operation settles it.
 use mathlib.Core.Path.{_≡_, sym, _∙_}
 use native.Mathlib.Omega.{arith}
 use lib.ListN.{length}
 use borrow.Author.Needs.{needs}
 use borrow.Author.Tests.{lt-ltb, le-ltb}
-use Rattle.semantics.specs.Sizes.{capacity}
-use Rattle.witness.specs.Playing.{stageAfter}
-use Rattle.recording.proofs.Laws.{unmapped}
+use Rattle.families.specs.Sizes.{capacity}
+use Rattle.witness.specs.WordsPlayed.{stageAfter}
+use Rattle.recording.specs.RecordLaws.{unmapped}
 use Rattle.witness.proofs.Finding.{number-below}
 use Rattle.witness.proofs.replay.place.Statement.{statement}
 use Rattle.witness.proofs.replay.place.Tie as tie

@@ -1,3 +1,4 @@
+-- All threads from the first on have what is wanted.
 use Prim.Native.Nat.{_+_, _≤_, _-_}
 use mathlib.Core.Path.{_≡_, refl, sym}
 use mathlib.Core.Bool.{true}
@@ -6,10 +7,10 @@ use lib.ListN.{getD}
 use lib.Dec.{leb}
 use borrow.Author.Needs.{needs}
 use borrow.Author.Tests.{le-leb, lt-leb}
-use Rattle.semantics.specs.Sizes.{threads}
+use Rattle.families.specs.Sizes.{threads}
 use Rattle.recording.specs.Shape.{allBelow}
-use Rattle.witness.specs.Playing.{reachesOf}
-use Rattle.recording.proofs.Laws.{below-no, below-more, below-end}
+use Rattle.witness.specs.WordsPlayed.{reachesOf}
+use Rattle.recording.specs.RecordLaws.{below-no, below-more, below-end}
 use Rattle.witness.proofs.replay.reaches.Statement.{statement}
 use Rattle.witness.proofs.replay.reaches.Tie as tie
 

@@ -1,10 +1,11 @@
+-- What is left of the words goes through from the stage in hand exactly if all of them do from the start.
 use Prim.Native.Nat.{_+_, _-_, _≤_}
 use mathlib.Core.Path.{_≡_}
 use lib.ListN.{length}
 use native.Mathlib.Omega.{arith}
 use borrow.Author.Needs.{needs}
-use Rattle.semantics.specs.Sizes.{threads}
-use Rattle.recording.proofs.Laws.{unmapped}
+use Rattle.families.specs.Sizes.{threads}
+use Rattle.recording.specs.RecordLaws.{unmapped}
 use Rattle.witness.proofs.Going.{Going, going-start, going-short, going-on, going-wrong, going-ended, going-pending}
 use Rattle.witness.proofs.replay.replay.Statement.{statement}
 use Rattle.witness.proofs.replay.replay.Tie as tie

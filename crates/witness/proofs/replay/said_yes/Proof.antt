@@ -1,5 +1,5 @@
 use borrow.Author.Needs.{needs}
-use Rattle.witness.specs.Playing.{saidYes}
+use Rattle.witness.specs.WordsPlayed.{saidYes}
 use Rattle.witness.proofs.replay.said_yes.Statement.{statement}
 use Rattle.witness.proofs.replay.said_yes.Tie as tie
 

@@ -1,6 +1,6 @@
 use borrow.Author.Needs.{needs}
 use mathlib.Core.Path.{sym, _∙_}
-use Rattle.witness.specs.Playing.{settleOf}
+use Rattle.witness.specs.WordsPlayed.{settleOf}
 use Rattle.witness.proofs.replay.settle.Statement.{statement}
 use Rattle.witness.proofs.replay.settle.Tie as tie
 

@@ -1,48 +1,32 @@
+-- The three numbers of the return are compared one by one.
+use mathlib.Core.Path.{_≡_, refl}
+use mathlib.Core.Bool.{Bool, true, false}
 use borrow.Author.Needs.{needs}
+use borrow.Author.Tests.{eq-eqb, ne-eqb}
+use Rattle.families.specs.Value.{pick}
 use Rattle.witness.specs.Words.{wordsOf}
+use Rattle.witness.specs.Checking.{sameWords}
 use Rattle.witness.proofs.words.describes.Statement.{statement}
 use Rattle.witness.proofs.words.describes.Tie as tie
 
-enum-known-ret : tie.Need-enum-known-ret
-enum-known-ret c = search needs
+only-last : (b : Bool) → pick b true false ≡ b
+only-last true = refl
+only-last false = refl
 
-same-register-requires : tie.Need-same-register-requires
-same-register-requires c κs = search needs
-
-enum-known-ret-2 : tie.Need-enum-known-ret-2
-enum-known-ret-2 c = search needs
-
-same-once-requires : tie.Need-same-once-requires
-same-once-requires c κs = search needs
-
-enum-known-ret-3 : tie.Need-enum-known-ret-3
-enum-known-ret-3 c = search needs
-
-same-vec-requires : tie.Need-same-vec-requires
-same-vec-requires c κs = search needs
+ret-coded-requires : tie.Need-ret-coded-requires
+ret-coded-requires c κs = search needs
 
 returns : tie.Need-returns
-unfolding wordsOf
-returns c = simp (c .same-register .ensures, c .before .before .ret .given .1)
+unfolding wordsOf sameWords
+returns c = simp (← c .before .before .before .before .before .ret-coded .ensures, eq-eqb _ _ (c .before .if2 .taken), eq-eqb _ _ (c .before .before .before .if1 .taken), only-last)
 
 returns-2 : tie.Need-returns-2
-unfolding wordsOf
-returns-2 c = simp (c .same-once .ensures, c .before .before .ret2 .given .1)
+unfolding wordsOf sameWords
+returns-2 c = simp (← c .before .before .before .before .ret-coded .ensures, ne-eqb _ _ (c .if2 .left), eq-eqb _ _ (c .before .before .if1 .taken))
 
 returns-3 : tie.Need-returns-3
-unfolding wordsOf
-returns-3 c = simp (c .same-vec .ensures, c .before .before .ret3 .given .1)
+unfolding wordsOf sameWords
+returns-3 c = simp (← c .before .before .ret-coded .ensures, ne-eqb _ _ (c .if1 .left))
 
 pub describes-spec : {M : Type 1} → statement M
-describes-spec =
-    tie.close
-    (tie.spec
-    enum-known-ret
-    same-register-requires
-    enum-known-ret-2
-    same-once-requires
-    enum-known-ret-3
-    same-vec-requires
-    returns
-    returns-2
-    returns-3)
+describes-spec = tie.close (tie.spec ret-coded-requires returns returns-2 returns-3)

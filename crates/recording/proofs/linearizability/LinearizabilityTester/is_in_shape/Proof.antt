@@ -1,3 +1,4 @@
+-- The pass over the history answers, with what the notes say.
 use Prim.Native.Nat.{_-_}
 use mathlib.Core.Bool.{Bool}
 use mathlib.Core.Path.{ap, _∙_}

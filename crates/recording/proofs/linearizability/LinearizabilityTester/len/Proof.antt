@@ -1,8 +1,9 @@
+-- The history's size, with what the notes say of its shape.
 use Prim.Native.Nat.{_-_}
 use mathlib.Core.Bool.{Bool}
 use mathlib.Core.Path.{ap, _∙_}
 use borrow.Author.Needs.{needs}
-use Rattle.recording.specs.Events.{sizeOf}
+use Rattle.recording.specs.EventSteps.{sizeOf}
 use Rattle.recording.specs.Shape.{shapedWith}
 use Rattle.recording.specs.Testers.{linearizabilityLen}
 use Rattle.recording.proofs.linearizability.LinearizabilityTester.len.Statement.{statement}

@@ -1,3 +1,4 @@
+-- The history begins as the object says, with no notes.
 use borrow.Author.Needs.{needs}
 use Rattle.recording.specs.Testers.{newLinearizability}
 use Rattle.recording.proofs.linearizability.LinearizabilityTester.new.Statement.{statement}

@@ -1,12 +1,13 @@
+-- The notes are those of an invocation that is taken, and else stay.
 use Prim.Native.Nat.{_-_}
 use mathlib.Core.Bool.{Bool}
 use mathlib.Core.Path.{sym, ap, _∙_}
 use native.Mathlib.Omega.{arith}
 use borrow.Author.Needs.{needs}
-use Rattle.recording.specs.Events.{invokeOf}
+use Rattle.recording.specs.EventSteps.{invokeOf}
 use Rattle.recording.specs.Shape.{shapedWith}
 use Rattle.recording.specs.Testers.{shapedTester}
-use Rattle.recording.proofs.Admitting.{noted-in}
+use Rattle.recording.specs.Admitting.{noted-in}
 use Rattle.recording.proofs.Noting.{taken-in, invoked-yes, invoked-no}
 use Rattle.recording.proofs.linearizability.LinearizabilityTester.on_invoke.Statement.{statement}
 use Rattle.recording.proofs.linearizability.LinearizabilityTester.on_invoke.Tie as tie
@@ -14,8 +15,8 @@ use Rattle.recording.proofs.linearizability.LinearizabilityTester.on_in
 noted-requires : tie.Need-noted-requires
 noted-requires c κs = search needs
 
-invoke-requires : tie.Need-invoke-requires
-invoke-requires c κs = search needs
+record-event-requires : tie.Need-record-event-requires
+record-event-requires c κs = search needs
 
 is-taken-requires : tie.Need-is-taken-requires
 is-taken-requires c κs = search needs
@@ -27,7 +28,7 @@ cast-note c =
     let h = tester .history in
     let thread = start .args .thread in
     let op = start .args .op in
-    let e = c .before .before .before .before .before .before .invoke .ensures ∙ ap (λ (b : Bool). invokeOf (shapedWith b h) h thread op)
+    let e = c .before .before .before .before .before .before .record-event .ensures ∙ ap (λ (b : Bool). invokeOf (shapedWith b h) h thread op)
     (c .before .before .before .before .before .before .before .noted .ensures) in
     let k = sym (c .before .before .before .before .is-taken .ensures) ∙ c .before .before .before .if1 .taken in
     omega (arith, taken-in (shapedTester tester) h thread op _ e k .1)
@@ -42,7 +43,7 @@ returns c =
     let thread = start .args .thread in
     let op = start .args .op in
     let h = tester .history in
-    let e = c .before .before .before .before .before .before .before .invoke .ensures ∙ ap (λ (b : Bool). invokeOf (shapedWith b h) h thread op)
+    let e = c .before .before .before .before .before .before .before .record-event .ensures ∙ ap (λ (b : Bool). invokeOf (shapedWith b h) h thread op)
     (c .before .before .before .before .before .before .before .before .noted .ensures) in
     let k = sym (c .before .before .before .before .before .is-taken .ensures) ∙ c .before .before .before .before .if1 .taken in
     invoked-yes tester thread op _ e k _ (c .note .ensures ∙ noted-in _ thread _ _ (taken-in (shapedTester tester) h thread op _ e k .0))
@@ -54,7 +55,7 @@ returns-2 c =
     let thread = start .args .thread in
     let op = start .args .op in
     let h = tester .history in
-    let e = c .before .before .before .invoke .ensures ∙ ap (λ (b : Bool). invokeOf (shapedWith b h) h thread op)
+    let e = c .before .before .before .record-event .ensures ∙ ap (λ (b : Bool). invokeOf (shapedWith b h) h thread op)
     (c .before .before .before .before .noted .ensures) in
     invoked-no tester thread op _ e (sym (c .before .is-taken .ensures) ∙ c .if1 .left)
 
@@ -63,7 +64,7 @@ on-invoke-spec =
     tie.close
     (tie.spec
     noted-requires
-    invoke-requires
+    record-event-requires
     is-taken-requires
     cast-note
     note-requires

@@ -1,3 +1,4 @@
+-- The pass over the history answers alone.
 use Prim.Native.Nat.{_-_}
 use borrow.Author.Needs.{needs}
 use Rattle.recording.proofs.sequential_consistency.SequentialConsistencyTester.is_in_shape.Statement.{statement}

@@ -1,3 +1,4 @@
+-- The history's size.
 use Prim.Native.Nat.{_-_}
 use borrow.Author.Needs.{needs}
 use Rattle.recording.specs.Testers.{sequentialLen}

@@ -1,3 +1,4 @@
+-- The history begins as the object says.
 use borrow.Author.Needs.{needs}
 use Rattle.recording.specs.Testers.{newSequential}
 use Rattle.recording.proofs.sequential_consistency.SequentialConsistencyTester.new.Statement.{statement}

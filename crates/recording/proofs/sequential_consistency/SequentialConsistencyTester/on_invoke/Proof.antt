@@ -1,3 +1,4 @@
+-- The history records the event.
 use Prim.Native.Nat.{_-_}
 use mathlib.Core.Path.{ap}
 use borrow.Author.Needs.{needs}
@@ -5,12 +6,12 @@ use Rattle.recording.specs.Testers.{sequentialAfter, sequentialInvoke}
 use Rattle.recording.proofs.sequential_consistency.SequentialConsistencyTester.on_invoke.Statement.{statement}
 use Rattle.recording.proofs.sequential_consistency.SequentialConsistencyTester.on_invoke.Tie as tie
 
-invoke-requires : tie.Need-invoke-requires
-invoke-requires c κs = search needs
+record-event-requires : tie.Need-record-event-requires
+record-event-requires c κs = search needs
 
 returns : tie.Need-returns
 unfolding sequentialInvoke
-returns c = ap sequentialAfter (c .before .invoke .ensures)
+returns c = ap sequentialAfter (c .before .record-event .ensures)
 
 pub on-invoke-spec : {M : Type 1} → statement M
-on-invoke-spec = tie.close (tie.spec invoke-requires returns)
+on-invoke-spec = tie.close (tie.spec record-event-requires returns)

@@ -1,3 +1,4 @@
+-- The return is tried exactly if the invocation was taken.
 use Prim.Native.Nat.{_-_}
 use mathlib.Core.Path.{sym, _∙_}
 use borrow.Author.Needs.{needs}

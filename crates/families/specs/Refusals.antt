@@ -1,0 +1,77 @@
+-- Why an object, an operation or a return is refused, with document 01's numbers.
+use Prim.Native.Nat.{ℕ}
+use mathlib.Core.Bool.{Bool, true, false}
+use lib.Dec.{eqb}
+use Rattle.families.specs.Value.{pick}
+use Rattle.families.specs.Family.{Family, familyOf, opFamily, retFamily, familyNumber}
+use Rattle.families.specs.Stack.{pushed, depthCheck, lowCheck, stackRoom}
+use Rattle.families.specs.declared.Kind.{Kind}
+use Rattle.families.specs.declared.Kind.the-variants.{Register, WORegister, Vec}
+use Rattle.families.specs.declared.Op.{Op}
+use Rattle.families.specs.declared.Op.the-variants.{Register as ORegister, WORegister as OWORegister, Vec as OVec}
+use Rattle.families.specs.declared.Ret.{Ret}
+use Rattle.families.specs.declared.Ret.the-variants.{Register as RRegister, WORegister as RWORegister, Vec as RVec}
+use Rattle.families.specs.declared.placing.Held.{Held}
+use Rattle.families.specs.declared.refusal.Refusal.{Refusal}
+use Rattle.families.specs.declared.refusal.Refusal.the-variants.{OtherFamily, NoRoom, StartTooDeep, OutOfShape}
+use Rattle.families.specs.declared.refusal.Check.{Check}
+use Rattle.families.specs.declared.refusal.Check.the-variants.{Clear, Refused}
+
+unfoldable pub numberOf : Refusal → ℕ
+numberOf OtherFamily = 3
+numberOf NoRoom = 7
+numberOf StartTooDeep = 8
+numberOf OutOfShape = 9
+
+unfoldable pub isClear : Check → Bool
+isClear Clear = true
+isClear (Refused r) = false
+
+-- the first refusal of two checks
+unfoldable pub inOrder : Check → Check → Check
+inOrder Clear b = b
+inOrder (Refused r) b = Refused r
+
+-- whether an operation or a return belongs to an object: 3 for another family
+
+unfoldable pub familyCheck : Family → Family → Check
+familyCheck f g = pick (eqb (familyNumber f) (familyNumber g)) Clear (Refused OtherFamily)
+
+unfoldable pub opBelongs : Kind → Op → Check
+opBelongs k op = familyCheck (opFamily op) (familyOf k)
+
+unfoldable pub retBelongs : Kind → Ret → Check
+retBelongs k ret = familyCheck (retFamily ret) (familyOf k)
+
+-- an object out of shape: 9
+unfoldable pub shapeCheck : Kind → Check
+shapeCheck (Register v) = Clear
+shapeCheck (WORegister m) = Clear
+shapeCheck (Vec d) = depthCheck d
+
+-- an object that a tester can't start with, though it is in shape: 8
+unfoldable pub sizeCheck : Kind → Check
+sizeCheck (Register v) = Clear
+sizeCheck (WORegister m) = Clear
+sizeCheck (Vec d) = lowCheck d
+
+-- what a constructor says of a start: 9 comes before 8
+unfoldable pub startCheck : Kind → Check
+startCheck k = inOrder (shapeCheck k) (sizeCheck k)
+
+-- an operation without room: 7
+
+unfoldable pub roomCheck : Held → Op → Check
+roomCheck h (ORegister p) = Clear
+roomCheck h (OWORegister p) = Clear
+roomCheck h (OVec p) = stackRoom (h .height) p
+
+-- a return that says that its operation took room
+unfoldable pub tookRoom : Ret → Bool
+tookRoom (RRegister q) = false
+tookRoom (RWORegister q) = false
+tookRoom (RVec q) = pushed q
+
+-- a step wants room only where its return says so
+unfoldable pub stepRoom : Held → Op → Ret → Check
+stepRoom h op ret = pick (tookRoom ret) (roomCheck h op) Clear

@@ -1,0 +1,29 @@
+-- Inputs in two parts, l and then k: what is recorded of both is what is recorded of l, then of k from there; and a 4 or 5 that was drawn stays drawn.
+use mathlib.Core.Path.{_≡_, refl}
+use mathlib.Core.Bool.{Bool, true, false, cond, _||_}
+use mathlib.Core.List.{[], _∷_, _++_}
+use Rattle.history.specs.Lists.{not-both}
+use Rattle.history.specs.Events.{Events}
+use Rattle.families.specs.Families.{families}
+use Rattle.recording.specs.EventSteps.{isTaken}
+use Rattle.recording_meaning.specs.Models.{Model}
+use Rattle.recording_meaning.specs.Inputs.{broke, broken, give, feed, drawn, taken}
+
+module _ (M : Model) where
+  pub taken-further : (l k : Events families) (s : M .Tester) → taken M s (l ++ k) ≡ taken M s l ++ taken M (feed M s l) k
+  taken-further [] k s = refl
+  taken-further (v ∷ l) k s =
+      let next = give M s v .1 in
+      rw (taken-further l k next) (go (isTaken (give M s v .0)) (taken M next l) (taken M (feed M next l) k))
+    where
+      go : (t : Bool) (a b : Events families) → cond t (v ∷ (a ++ b)) (a ++ b) ≡ cond t (v ∷ a) a ++ b
+      go true a b = refl
+      go false a b = refl
+
+  pub broken-further : (l k : Events families) (s : M .Tester) → broken (drawn M s l) ≡ true → broken (drawn M s (l ++ k)) ≡ true
+  broken-further [] k s e = not-both e refl
+  broken-further (v ∷ l) k s e = go (broke (give M s v .0)) e (broken-further l k (give M s v .1))
+    where
+      go : {a b : Bool} (t : Bool) → t || a ≡ true → (a ≡ true → b ≡ true) → t || b ≡ true
+      go true e f = refl
+      go false e f = f e

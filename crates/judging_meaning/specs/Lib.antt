@@ -1,0 +1,23 @@
+-- What a judge's answers mean.
+pub mod Judging
+-- The Rust's search for an order, transcribed; what an order and a verdict are there; and that the judge's answer is the Rust's.
+pub mod Serialize
+pub mod Shown
+pub mod RustVerdict
+pub mod RustJudge
+-- That the answers mean it.
+pub mod Within
+pub mod Judged
+pub mod JudgedFresh
+-- That verdicts only move one way.
+pub mod FurtherEvents
+pub mod VerdictsOneWay
+pub mod Accepted
+-- That the two searches agree: what remains in the Rust's maps, when an operation is in violation, a level of the search, and all of them.
+pub mod Remaining
+pub mod Violations
+pub mod SerializeLevel
+pub mod Levels
+pub mod SerializeAgrees
+-- The notes of a tester in shape.
+pub mod RowNotes

@@ -1,0 +1,130 @@
+-- The judge's verdict is the Rust's: where the budget covers the search, it is the order that `serialized_history` answers, or None.
+use Prim.Native.Nat.{ℕ, _≤_}
+use mathlib.Core.Path.{_≡_, refl, sym, ap, _∙_}
+use mathlib.Core.Logic.{_↔_}
+use mathlib.Core.Bool.{Bool, true, false}
+use mathlib.Core.Option.{Option, none, some}
+use mathlib.Core.List.{[]}
+use Rattle.theory.specs.Tree.{Tree, answer, count}
+use Rattle.theory.specs.Space.{Step}
+use Rattle.theory.specs.Budget.{Verdict, no-order, Judged, told}
+use Rattle.theory.specs.Verdicts.{judge-enough}
+use Rattle.history.specs.Rows.{Rows}
+use Rattle.history.specs.Lists.{not-some}
+use Rattle.history.specs.Space.{space}
+use Rattle.history.specs.Ways.{Steps, searched}
+use Rattle.history.specs.Budgets.{judged}
+use Rattle.families.specs.Families.{families}
+use Rattle.semantics.specs.Invoking.{holds}
+use Rattle.families.specs.declared.Object.{Object}
+use Rattle.families.specs.declared.Op.{Op}
+use Rattle.families.specs.declared.Ret.{Ret}
+use Rattle.recording_meaning.specs.Models.{Model, rows-of, sequentialModel, linearizabilityModel}
+use Rattle.recording_meaning.specs.Meaning.{Means}
+use Rattle.recording_meaning.specs.Meant.{sequential-meaning, linearizability-meaning}
+use Rattle.recording_meaning.specs.Rust.{len}
+use Rattle.recording_meaning.specs.RustMaps.{in-maps}
+use Rattle.recording_meaning.specs.RustReading.{InRust, sequential-in-rust, linearizability-in-rust, RustTester, in-rust, StandsFor, exactly, strayed}
+use Rattle.judging_meaning.specs.Serialize.{
+  TotalOrder,
+  Serializes,
+  queues,
+  serialize,
+  serialized-history,
+  sequential-serializes,
+  linearizable-serializes,
+}
+use Rattle.judging_meaning.specs.Shown.{shown, shown-verdict}
+use Rattle.judging_meaning.specs.Violations.{Agrees, sequential-agrees, linearizable-agrees}
+use Rattle.judging_meaning.specs.SerializeAgrees.{serialized-agrees, levels-enough}
+use Rattle.judging_meaning.specs.RowNotes.{sequential-noteless, linearizability-fits}
+
+-- what a whole search tells
+
+module _ (rows : Rows families) where
+  shown-told : (a : Option (Steps families rows)) → shown families rows a ≡ shown-verdict families rows (told a)
+  shown-told (some p) = refl
+  shown-told none = refl
+
+  told-none : (a : Option (Steps families rows)) → shown-verdict families rows (told a) ≡ none → told a ≡ no-order
+  told-none (some p) h = not-some (sym h)
+  told-none none h = refl
+
+module _ (M : Model) (R : InRust M) (S : Serializes families (R .keeps)) where
+  -- What `serialized_history` answers of the Rust's tester that a tester reads as.
+  abbrev pub rust-answer : M .Tester → Option (TotalOrder families)
+  rust-answer s = serialized-history families (R .keeps) S holds (in-rust M R s)
+
+  -- The tree that the judge searches, and its verdict under the budget b.
+
+  abbrev pub search-of : (s : M .Tester) → Tree (Step (space families (rows-of M s)))
+  search-of s = searched families (rows-of M s) (holds (M .history s .start))
+
+  abbrev pub verdict-of : (s : M .Tester) → ℕ → Verdict (Step (space families (rows-of M s)))
+  verdict-of s b = judged families (rows-of M s) b (holds (M .history s .start)) .verdict
+
+  -- The verdict is the Rust's answer.
+  pub record Serialized : Type 0 where
+    -- of a valid history, where the budget covers the search
+    pub covered : (s : M .Tester) → M .Lengths s → M .shaped s ≡ true → M .history s .valid ≡ true → (b : ℕ) → count (search-of s) ≤ b
+        → rust-answer s ≡ shown-verdict families (rows-of M s) (verdict-of s b)
+    -- so that it is None exactly where there is no order
+    pub none-exactly : (s : M .Tester) → M .Lengths s → M .shaped s ≡ true → M .history s .valid ≡ true → (b : ℕ) → count (search-of s) ≤ b
+        → (rust-answer s ≡ none) ↔ (verdict-of s b ≡ no-order)
+    -- the levels of the transcription do not bound it: with more of them it answers the same
+    pub unbounded : (s : M .Tester) → M .Lengths s → M .shaped s ≡ true → M .history s .valid ≡ true
+        → (n : ℕ) → len Op Ret Object (R .keeps) (in-rust M R s) ≤ n
+        → serialize families (R .keeps) S n [] (holds (M .history s .start)) (queues families (R .keeps) S (in-rust M R s .history-by-thread))
+        (in-rust M R s .in-flight-by-thread) ≡ rust-answer s
+    -- of a history that is not valid: None
+    pub invalid : (s : M .Tester) → M .history s .valid ≡ false → rust-answer s ≡ none
+    -- and a stray entry changes nothing
+    pub stray : (s : M .Tester) {T : RustTester M R} → StandsFor M R s T → serialized-history families (R .keeps) S holds T ≡ rust-answer s
+
+  -- the Rust's answer, by validity
+  abbrev rust-of : M .Tester → Bool → Option (TotalOrder families)
+  rust-of s b = serialized-history families (R .keeps) S holds (in-maps families (R .keeps) (R .flight) (M .history s .start) (rows-of M s) b)
+
+  stray-same : (s : M .Tester) {T : RustTester M R} → StandsFor M R s T → serialized-history families (R .keeps) S holds T ≡ rust-answer s
+  stray-same s exactly = refl
+  stray-same s (strayed t l v) = rw v
+
+  module _ (means : Means M)
+      (agrees : (s : M .Tester) → M .Lengths s → M .shaped s ≡ true → Agrees families (R .keeps) (R .flight) S (rows-of M s)) where
+    module _ (s : M .Tester) (z : M .Lengths s) (e : M .shaped s ≡ true) (v : M .history s .valid ≡ true) where
+      -- the Rust's tester, which is valid
+      with-valid : rust-answer s ≡ rust-of s true
+      with-valid = ap (rust-of s) v
+
+      rust-told : rust-answer s ≡ shown-verdict families (rows-of M s) (told (answer (search-of s)))
+      rust-told =
+          with-valid
+          ∙ serialized-agrees families (R .keeps) (R .flight) S (rows-of M s) (agrees s z e) (means .rows-in-shape s z e) holds (M .history s .start)
+          ∙ shown-told (rows-of M s) (answer (search-of s))
+
+      verdict-told : (b : ℕ) → count (search-of s) ≤ b → verdict-of s b ≡ told (answer (search-of s))
+      verdict-told b h = ap (λ (j : Judged (Step (space families (rows-of M s)))). j .verdict) (judge-enough b (search-of s) h)
+
+    pub serialized : Serialized
+    serialized = record {
+      covered = λ s z e v b h. rust-told s z e v ∙ ap (shown-verdict families (rows-of M s)) (sym (verdict-told s z e v b h));
+      none-exactly = λ s z e v b h. (
+        λ n. verdict-told s z e v b h ∙ told-none (rows-of M s) (answer (search-of s)) (sym (rust-told s z e v) ∙ n),
+        λ n. rust-told s z e v ∙ ap (shown-verdict families (rows-of M s)) (sym (verdict-told s z e v b h) ∙ n),
+      );
+      unbounded = λ s z e v n h.
+          levels-enough families (R .keeps) (R .flight) S (rows-of M s) (agrees s z e) (means .rows-in-shape s z e) holds (M .history s .start) n h
+          ∙ sym (with-valid s z e v);
+      invalid = λ s v. rw v;
+      stray = stray-same;
+    }
+
+pub sequential-serialized : Serialized sequentialModel sequential-in-rust (sequential-serializes families)
+sequential-serialized =
+    serialized sequentialModel sequential-in-rust (sequential-serializes families) sequential-meaning
+    (λ s z e. sequential-agrees families (rows-of sequentialModel s) (sequential-noteless s))
+
+pub linearizability-serialized : Serialized linearizabilityModel linearizability-in-rust (linearizable-serializes families)
+linearizability-serialized =
+    serialized linearizabilityModel linearizability-in-rust (linearizable-serializes families) linearizability-meaning
+    (λ s z e. linearizable-agrees families (rows-of linearizabilityModel s) (linearizability-fits s z e))

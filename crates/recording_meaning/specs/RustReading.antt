@@ -1,0 +1,121 @@
+-- What a tester is in the Rust's maps, and when the two are compared: where the Rust knows the answer, numbers 0, 1, 4 and 5. It has no sizes and
+-- its types let in an object's own events only, so that 2, 3, 6 and 9 have no counterpart there.
+use Prim.Native.Nat.{ℕ, _<_, _≤_}
+use mathlib.Core.Path.{_≡_}
+use mathlib.Core.Bool.{Bool, true, false, _&&_}
+use mathlib.Core.List.{List, [], _∷_, map}
+use Rattle.history.specs.Events.{Event, Events, invoked, returned, ThreadsBelow}
+use Rattle.families.specs.Sizes.{threads, capacity}
+use Rattle.families.specs.Families.{families}
+use Rattle.families.specs.declared.Object.{Object}
+use Rattle.families.specs.declared.Op.{Op}
+use Rattle.families.specs.declared.Ret.{Ret}
+use Rattle.recording.specs.declared.consistency_tester.Recorded.{Recorded}
+use Rattle.recording.specs.declared.consistency_tester.Recorded.the-variants.{Taken, Refused}
+use Rattle.recording.specs.declared.consistency_tester.Reason.the-variants.{AlreadyInvalid, NoSuchThread, NotOwn, InFlight, NothingInFlight, Full, OutOfShape}
+use Rattle.recording.specs.Shape.{kindOf}
+use Rattle.recording_meaning.specs.Rust.{Keeps, Tester, Answered, Result, Ok, Err, new, with-entry, on-invoke, on-return, len, linearizable, sequential}
+use Rattle.recording_meaning.specs.RustMaps.{with-notes, without-notes, in-maps}
+use Rattle.recording_meaning.specs.Models.{Model, rows-of, sequentialModel, linearizabilityModel}
+use Rattle.recording_meaning.specs.Inputs.{Own, invocations-in, feed, drawn}
+
+-- What the Rust's tester of a model keeps of an operation with its notes.
+pub record InRust (M : Model) : Type 1 where
+  pub keeps : Keeps Op Ret
+  pub flight : Op → List ℕ → keeps .InFlight
+
+abbrev pub sequential-in-rust : InRust sequentialModel
+sequential-in-rust = record { keeps = sequential Op Ret; flight = without-notes families }
+
+abbrev pub linearizability-in-rust : InRust linearizabilityModel
+linearizability-in-rust = record { keeps = linearizable Op Ret; flight = with-notes families }
+
+-- Ok for 0, and Err for what the Rust refuses.
+abbrev pub result-of : Recorded → Result
+result-of Taken = Ok
+result-of (Refused r) = Err
+
+-- 0, 1, 4 and 5
+abbrev pub comparable : Recorded → Bool
+comparable Taken = true
+comparable (Refused AlreadyInvalid) = true
+comparable (Refused NoSuchThread) = false
+comparable (Refused (NotOwn r)) = false
+comparable (Refused InFlight) = true
+comparable (Refused NothingInFlight) = true
+comparable (Refused Full) = false
+comparable (Refused OutOfShape) = false
+
+abbrev pub all-comparable : List Recorded → Bool
+all-comparable [] = true
+all-comparable (r ∷ l) = comparable r && all-comparable l
+
+module _ (M : Model) (R : InRust M) where
+  -- The Rust's testers.
+  abbrev pub RustTester : Type 0
+  RustTester = Tester Op Ret Object (R .keeps)
+
+  -- What a call there answers and leaves.
+  abbrev pub answered : Result → RustTester → Answered Op Ret Object (R .keeps)
+  answered r s = record { result = r; tester = s }
+
+  -- What a tester is there.
+  abbrev pub in-rust : M .Tester → RustTester
+  in-rust s = in-maps families (R .keeps) (R .flight) (M .history s .start) (rows-of M s) (M .history s .valid)
+
+  -- What the Rust's on_return leaves: after 5 there is one thing more, an entry of the thread in history_by_thread, empty if there was none.
+  abbrev pub left-by : Recorded → RustTester → ℕ → RustTester
+  left-by Taken s t = s
+  left-by (Refused AlreadyInvalid) s t = s
+  left-by (Refused NoSuchThread) s t = s
+  left-by (Refused (NotOwn r)) s t = s
+  left-by (Refused InFlight) s t = s
+  left-by (Refused NothingInFlight) s t = with-entry Op Ret Object (R .keeps) s t
+  left-by (Refused Full) s t = s
+  left-by (Refused OutOfShape) s t = s
+
+  -- A Rust tester stands for a tester: it is what the tester reads as or, once validity is off by a return to thread t, that with the stray entry.
+  pub data StandsFor (s : M .Tester) : RustTester → Type 0 where
+    exactly : StandsFor s (in-rust s)
+    strayed : (t : ℕ) → t < threads → M .history s .valid ≡ false → StandsFor s (with-entry Op Ret Object (R .keeps) (in-rust s) t)
+
+  -- The Rust's new tester, of the object that the tester was made with.
+  abbrev pub rust-new : Object → RustTester
+  rust-new start = new Op Ret Object (R .keeps) (M .history (M .new start) .start)
+
+  -- Feeding the Rust.
+
+  abbrev pub rust-give : RustTester → Event families → Answered Op Ret Object (R .keeps)
+  rust-give s (invoked t op) = on-invoke Op Ret Object (R .keeps) s t op
+  rust-give s (returned t ret) = on-return Op Ret Object (R .keeps) s t ret
+
+  abbrev pub rust-feed : RustTester → Events families → RustTester
+  rust-feed s [] = s
+  rust-feed s (v ∷ l) = rust-feed (rust-give s v .tester) l
+
+  abbrev pub rust-drawn : RustTester → Events families → List Result
+  rust-drawn s [] = []
+  rust-drawn s (v ∷ l) = rust-give s v .result ∷ rust-drawn (rust-give s v .tester) l
+
+  -- The Rust's new tester, fed the same inputs, answers the same, stands for the tester in the end, and has the same len.
+  pub record SameAsRust (start : Object) (l : Events families) : Type 0 where
+    pub results : rust-drawn (rust-new start) l ≡ map result-of (drawn M (M .new start) l)
+    pub stands : StandsFor (feed M (M .new start) l) (rust-feed (rust-new start) l)
+    pub lens : len Op Ret Object (R .keeps) (rust-feed (rust-new start) l) ≡ M .len (feed M (M .new start) l)
+
+  -- Recording is the Rust's.
+  pub record AsRust : Type 0 where
+    -- a tester in shape, a call that draws 0, 1, 4 or 5: Ok for 0 and Err else, and the tester after it reads as the Rust's after it
+    pub invoke-as : (s : M .Tester) → M .Lengths s → M .shaped s ≡ true → (t : ℕ) (op : Op) → comparable (M .on-invoke s t op .0) ≡ true
+        → on-invoke Op Ret Object (R .keeps) (in-rust s) t op ≡ answered (result-of (M .on-invoke s t op .0)) (in-rust (M .on-invoke s t op .1))
+    -- after 5, with the stray entry
+    pub return-as : (s : M .Tester) → M .Lengths s → M .shaped s ≡ true → (t : ℕ) (ret : Ret) → comparable (M .on-return s t ret .0) ≡ true
+        → on-return Op Ret Object (R .keeps) (in-rust s) t ret
+        ≡ answered (result-of (M .on-return s t ret .0)) (left-by (M .on-return s t ret .0) (in-rust (M .on-return s t ret .1)) t)
+    -- from fresh, along inputs that draw nothing else
+    pub run-as : (start : Object) (l : Events families) → all-comparable (drawn M (M .new start) l) ≡ true → SameAsRust start l
+    -- within document 01's sizes no input draws anything else: threads 0 to 7, the object's own events, at most 64 invocations
+    pub in-sizes : (start : Object) (l : Events families) → ThreadsBelow families threads l → Own (kindOf (M .history (M .new start))) l
+        → invocations-in l ≤ capacity → SameAsRust start l
+    -- while the history is valid, there is no stray entry
+    pub while-valid : (s : M .Tester) {T : RustTester} → M .history s .valid ≡ true → StandsFor s T → T ≡ in-rust s

@@ -1,0 +1,198 @@
+-- Fed from fresh, whatever the inputs: the rows are those of the recorded events, validity is off exactly if some input drew 4 or 5, and len counts
+-- the invocations recorded.
+use Prim.Native.Nat.{ℕ, _+_, _<_}
+use mathlib.Core.Path.{_≡_, refl, sym, ap, _∙_, subst}
+use mathlib.Core.Logic.{_↔_}
+use mathlib.Core.Bool.{Bool, true, false, cond, _||_, _&&_, not}
+use mathlib.Core.List.{[], _∷_}
+use lib.ListN.{length, replicate}
+use native.Mathlib.Omega.{arith}
+use Rattle.history.specs.Lists.{not-both}
+use Rattle.history.specs.Events.{Event, Events, invoked, returned}
+use Rattle.history.specs.Rows.{Rows, operations}
+use Rattle.history.specs.Recorder.{Feeds, fed, invokes, gives-back, Fed}
+use Rattle.families.specs.Sizes.{threads}
+use Rattle.families.specs.Families.{families}
+use Rattle.families.specs.declared.Object.{Object}
+use Rattle.families.specs.declared.Op.{Op}
+use Rattle.families.specs.declared.Ret.{Ret}
+use Rattle.families.specs.declared.refusal.Check.{Check}
+use Rattle.recording.specs.declared.consistency_tester.History.{History}
+use Rattle.recording.specs.declared.consistency_tester.Recorded.{Recorded}
+use Rattle.recording.specs.declared.consistency_tester.Recorded.the-variants.{Refused}
+use Rattle.recording.specs.declared.consistency_tester.Reason.{Reason}
+use Rattle.recording.specs.Record.{fresh}
+use Rattle.recording.specs.EventSteps.{isTaken, breaks, sizeOf}
+use Rattle.recording_meaning.specs.Reading.{rowsOf}
+use Rattle.recording_meaning.specs.Shaping.{rows-count}
+use Rattle.recording_meaning.specs.Beginning.{startOf, begun-is, fresh-rows}
+use Rattle.recording_meaning.specs.Rowing.{rows-many}
+use Rattle.recording_meaning.specs.Cases.{Barred, barred-keeps}
+use Rattle.recording_meaning.specs.Models.{Model, rows-of}
+use Rattle.recording_meaning.specs.Lawful.{Lawful}
+use Rattle.recording_meaning.specs.EventTurns.{
+  Good,
+  good-shaped,
+  InvokeTurn,
+  invoke-refused,
+  second,
+  no-room,
+  invoke-taken,
+  ReturnTurn,
+  return-refused,
+  stray,
+  return-taken,
+  invoke-turn,
+  return-turn,
+}
+use Rattle.recording_meaning.specs.Reaching.{good-new, good-invoke, good-return}
+use Rattle.recording_meaning.specs.Inputs.{broke, broken, invocations-in, give, feed, drawn, taken}
+
+module _ (M : Model) (L : Lawful M) where
+  -- What an input does to rows, validity and count, by what it draws.
+  pub record Step (s : M .Tester) (v : Event families) (r : Recorded) (next : M .Tester) : Type 0 where
+    pub reads : {end : Rows families} {H : Events families} → Feeds families (M .keep) (rows-of M next) H end
+        → Feeds families (M .keep) (rows-of M s) (cond (isTaken r) (v ∷ H) H) end
+    pub valid : M .history next .valid ≡ M .history s .valid && not (broke r)
+    pub count : M .history next .count ≡ M .history s .count + cond (isTaken r) (invocations-in (v ∷ [])) 0
+    pub start : M .history next .start ≡ M .history s .start
+
+  -- rows and validity that stay
+  stays : {s next : M .Tester} {v : Event families} {r : Recorded} → isTaken r ≡ false → rows-of M next ≡ rows-of M s
+      → M .history next .valid ≡ M .history s .valid && not (broke r) → M .history next .count ≡ M .history s .count
+      → M .history next .start ≡ M .history s .start → Step s v r next
+  stays {s} {next} {v} {r} e w b c o = record {
+    reads = λ {end} {H} f. rw e (subst (λ (rows : Rows families). Feeds families (M .keep) rows H end) w f);
+    valid = b;
+    count = rw e (omega arith);
+    start = o;
+  }
+
+  still : (a : Bool) → a ≡ a && not false
+  still true = refl
+  still false = refl
+
+  step-refused : {s : M .Tester} {t : ℕ} {said : Check} {r : Reason} (v : Event families) → Barred (M .history s) t said r → Step s v (Refused r) s
+  unfolding isTaken
+  step-refused {s} v w = stays refl refl (rw (barred-keeps w) (still (M .history s .valid))) refl refl
+
+  in-rows : (s : M .Tester) (t : ℕ) → t < threads → t < length (rows-of M s)
+  in-rows s t l = rw (rows-many (M .needs s) (M .history s)) l
+
+  step-invoke : {s next : M .Tester} {t : ℕ} {op : Op} {r : Recorded} → InvokeTurn M s t op r next → Step s (invoked t op) r next
+  unfolding isTaken breaks
+  step-invoke {t = t} {op = op} (invoke-refused w) = step-refused (invoked t op) w
+  step-invoke (second a b h w) =
+      stays refl w (ap (λ (x : History). x .valid) h ∙ rw (a .valid)) (ap (λ (x : History). x .count) h) (ap (λ (x : History). x .start) h)
+  step-invoke (no-room a b c) = stays refl refl (rw (a .valid)) refl refl
+  step-invoke {s} {next} {t} {op} (invoke-taken a b c h w) = record {
+    reads = λ {end} {H} f. invokes (in-rows s t (a .known)) b (subst (λ (rows : Rows families). Feeds families (M .keep) rows H end) w f);
+    valid = ap (λ (x : History). x .valid) h ∙ rw (a .valid);
+    count = ap (λ (x : History). x .count) h;
+    start = ap (λ (x : History). x .start) h;
+  }
+
+  step-return : {s next : M .Tester} {t : ℕ} {ret : Ret} {r : Recorded} → ReturnTurn M s t ret r next → Step s (returned t ret) r next
+  unfolding isTaken breaks
+  step-return {t = t} {ret = ret} (return-refused w) = step-refused (returned t ret) w
+  step-return (stray a b h w) =
+      stays refl w (ap (λ (x : History). x .valid) h ∙ rw (a .valid)) (ap (λ (x : History). x .count) h) (ap (λ (x : History). x .start) h)
+  step-return {s} {next} {t} {ret} (return-taken i a b h w) = record {
+    reads = λ {end} {H} f. gives-back (in-rows s t (a .known)) b (subst (λ (rows : Rows families). Feeds families (M .keep) rows H end) w f);
+    valid = ap (λ (x : History). x .valid) h ∙ rw (a .valid);
+    count = ap (λ (x : History). x .count) h ∙ omega arith;
+    start = ap (λ (x : History). x .start) h;
+  }
+
+  pub step-of : (s : M .Tester) → Good M L s → (v : Event families) → Step s v (give M s v .0) (give M s v .1)
+  step-of s g (invoked t op) = step-invoke (invoke-turn M L s g t op)
+  step-of s g (returned t ret) = step-return (return-turn M L s g t ret)
+
+  pub good-give : (s : M .Tester) → Good M L s → (v : Event families) → Good M L (give M s v .1)
+  good-give s g (invoked t op) = good-invoke M L s g t op
+  good-give s g (returned t ret) = good-return M L s g t ret
+
+  pub good-feed : (l : Events families) (s : M .Tester) → Good M L s → Good M L (feed M s l)
+  good-feed [] s g = g
+  good-feed (v ∷ l) s g = good-feed l (give M s v .1) (good-give s g v)
+
+  -- along the inputs
+
+  feed-reads : (l : Events families) (s : M .Tester) → Good M L s → Feeds families (M .keep) (rows-of M s) (taken M s l) (rows-of M (feed M s l))
+  feed-reads [] s g = fed
+  feed-reads (v ∷ l) s g = step-of s g v .reads (feed-reads l (give M s v .1) (good-give s g v))
+
+  off : (a b c : Bool) → (a && not b) && not c ≡ a && not (b || c)
+  off true true c = refl
+  off true false c = refl
+  off false b c = refl
+
+  feed-valid : (l : Events families) (s : M .Tester) → Good M L s → M .history (feed M s l) .valid ≡ M .history s .valid && not (broken (drawn M s l))
+  feed-valid [] s g = still (M .history s .valid)
+  feed-valid (v ∷ l) s g =
+      feed-valid l (give M s v .1) (good-give s g v)
+      ∙ ap (λ (b : Bool). b && not (broken (drawn M (give M s v .1) l))) (step-of s g v .valid)
+      ∙ off (M .history s .valid) (broke (give M s v .0)) (broken (drawn M (give M s v .1) l))
+
+  one-more : (b : Bool) (v : Event families) (H : Events families)
+      → invocations-in (cond b (v ∷ H) H) ≡ cond b (invocations-in (v ∷ [])) 0 + invocations-in H
+  one-more true (invoked t op) H = omega arith
+  one-more true (returned t ret) H = omega arith
+  one-more false v H = omega arith
+
+  feed-count : (l : Events families) (s : M .Tester) → Good M L s → M .history (feed M s l) .count ≡ M .history s .count + invocations-in (taken M s l)
+  feed-count [] s g = omega arith
+  feed-count (v ∷ l) s g =
+      let next = give M s v .1 in
+      feed-count l next (good-give s g v) ∙ rw (step-of s g v .count, one-more (isTaken (give M s v .0)) v (taken M next l)) (omega arith)
+
+  -- A tester in shape has the len that it counts, which is that of its rows.
+
+  len-count : (s : M .Tester) → Good M L s → M .len s ≡ M .history s .count
+  unfolding sizeOf
+  len-count s g = L .size s ∙ rw (good-shaped M L s g)
+
+  pub len-operations : (s : M .Tester) → Good M L s → M .len s ≡ operations families (rows-of M s)
+  len-operations s g = len-count s g ∙ sym (rows-count (M .needs s) (M .history s) (g .parts) (g .sized))
+
+  -- a fresh tester
+
+  new-history : (start : Object) → M .history (M .new start) ≡ fresh (startOf start)
+  new-history start = L .begins start .0 ∙ begun-is start
+
+  pub new-rows : (start : Object) → rows-of M (M .new start) ≡ replicate threads []
+  new-rows start = ap (rowsOf (M .needs (M .new start))) (new-history start) ∙ fresh-rows (M .needs (M .new start)) (startOf start)
+
+  pub new-valid : (start : Object) → M .history (M .new start) .valid ≡ true
+  unfolding fresh
+  new-valid start = ap (λ (h : History). h .valid) (new-history start)
+
+  pub new-count : (start : Object) → M .history (M .new start) .count ≡ 0
+  unfolding fresh
+  new-count start = ap (λ (h : History). h .count) (new-history start)
+
+  module _ (start : Object) (l : Events families) where
+    -- The rows are those of the recorded events.
+    pub fed-rows : Fed families (M .keep) threads (taken M (M .new start) l) (rows-of M (feed M (M .new start) l))
+    fed-rows = record {
+      from-fresh = subst (λ (rows : Rows families). Feeds families (M .keep) rows (taken M (M .new start) l) (rows-of M (feed M (M .new start) l)))
+          (new-rows start) (feed-reads l (M .new start) (good-new M L start));
+    }
+
+    -- Validity is off exactly if some input drew 4 or 5 at its turn.
+    pub invalid-exactly : M .history (feed M (M .new start) l) .valid ≡ false ↔ broken (drawn M (M .new start) l) ≡ true
+    invalid-exactly =
+        let e = feed-valid l (M .new start) (good-new M L start) ∙ ap (λ (b : Bool). b && not (broken (drawn M (M .new start) l))) (new-valid start) in
+        (λ h. turned (broken (drawn M (M .new start) l)) (sym e ∙ h), λ h. e ∙ ap not h)
+      where
+        turned : (b : Bool) → not b ≡ false → b ≡ true
+        turned true h = refl
+        turned false h = not-both refl h
+
+    -- len counts the invocations recorded.
+    pub len-invocations : M .len (feed M (M .new start) l) ≡ invocations-in (taken M (M .new start) l)
+    len-invocations =
+        let g = good-new M L start in
+        len-count (feed M (M .new start) l) (good-feed l (M .new start) g)
+        ∙ feed-count l (M .new start) g
+        ∙ rw (new-count start) (omega arith)
