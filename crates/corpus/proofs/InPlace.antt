@@ -6,41 +6,30 @@ use mathlib.Core.List.{List}
 use native.Mathlib.Omega.{arith}
 use borrow.Author.Tests.{ne-eqb}
 use lib.ListN.{length, set, replicate, length-set, length-replicate}
-use Rattle.families.specs.Value.{pick}
-use Rattle.families.specs.Sizes.{threads}
+use Rattle.values.specs.Value.{pick}
+use Rattle.values.specs.Sizes.{threads}
 use Rattle.families.specs.Refusals.{startCheck}
 use Rattle.families.specs.declared.Kind.{Kind}
-use Rattle.families.specs.declared.refusal.Check.the-variants.{Clear}
+use Rattle.values.specs.declared.refusal.Check.the-variants.{Clear}
 use Rattle.families.specs.declared.Object.{Object}
 use Rattle.families.specs.declared.event.Event.{Event as CEvent}
 use Rattle.families.specs.declared.event.Event.the-variants.{Invoked, Returned}
-use Rattle.recording.specs.declared.consistency_tester.History.{History}
-use Rattle.recording.specs.declared.consistency_tester.Recorded.{Recorded}
+use Rattle.stepping.specs.declared.history.History.{History}
+use Rattle.stepping.specs.declared.recorded.Recorded.{Recorded}
 use Rattle.recording.specs.declared.linearizability.LinearizabilityTester.{LinearizabilityTester}
 use Rattle.recording.specs.declared.linearizability.After.{After}
-use Rattle.recording.specs.declared.consistency_tester.Step.{Step}
-use Rattle.recording.specs.declared.shape.Look.{Look}
-use Rattle.recording.specs.declared.step.Change.{Change}
-use Rattle.recording.specs.Record.{fresh}
-use Rattle.recording.specs.Shape.{kindOf, notesShaped}
-use Rattle.recording.specs.EventSteps.{isTaken, validAfter, step}
+use Rattle.stepping.specs.declared.step.Step.{Step}
+use Rattle.stepping.specs.declared.step.Change.{Change}
+use Rattle.stepping.specs.Record.{fresh}
+use Rattle.stepping.specs.Shape.{kindOf}
+use Rattle.recording.specs.Testers.{notesShaped}
+use Rattle.stepping.specs.EventSteps.{isTaken, validAfter, step}
 use Rattle.recording.specs.Testers.{linearizability, shapedTester, notesWith, linearizabilityAfter, invokedBy, linearizabilityInvoke, linearizabilityReturn}
-use Rattle.recording.specs.Pass.{Looks, placeIn, placeAt}
-use Rattle.recording.specs.OneStep.{
-  eventOf,
-  threadOf,
-  comesTo,
-  placeFor,
-  changed,
-  changeAt,
-  change-invoked,
-  change-returned,
-  thread-invoked,
-  mark-invoked,
-  mark-returned,
-}
-use Rattle.recording.specs.Admitting.{Fits}
-use Rattle.recording.specs.Admitting as admitting
+use Rattle.recording.specs.NotesLaws.{noted-in}
+use Rattle.stepping.specs.StepChecks.{Known, placeIn, placeAt}
+use Rattle.stepping.specs.OneStep.{eventOf, threadOf, comesTo, placeFor, changed, changeAt, change-invoked, change-returned, thread-invoked, mark-invoked, mark-returned}
+use Rattle.stepping.specs.Admitting.{Fits}
+use Rattle.stepping.specs.Admitting as admitting
 use Rattle.recording_meaning.specs.Models.{linearizabilityModel}
 use Rattle.recording_meaning.specs.Inputs.{give}
 use Rattle.recording_meaning.specs.Beginning.{begun-clear}
@@ -77,12 +66,9 @@ module _ (h : History) (notes flying : List ℕ) (k : Kind) (S : Standing h note
   abbrev s : LinearizabilityTester
   s = linearizability h notes
 
-  abbrev look : Look
-  look = record { ok = true; flying = flying }
-
-  looked : Looks (shapedTester s) h look
+  looked : Known (shapedTester s) h true flying
   looked = record {
-    ok = sym (good-shaped linearizabilityModel linearizability-lawful s (S .good));
+    ok-is = sym (good-shaped linearizabilityModel linearizability-lawful s (S .good));
     places = λ _ t l. S .marks t l;
   }
 
@@ -127,7 +113,7 @@ module _ (h : History) (notes flying : List ℕ) (k : Kind) (S : Standing h note
   handed-taken (Invoked t op) r g y w =
       ap (linearizabilityAfter (step r g))
       (rw (mark-invoked h t op (h .count) (w .room), thread-invoked h t op (h .count) (w .known), ne-eqb (h .count + 1) 0 (λ z. omega arith))
-      (admitting.noted-in (h .done) t (h .count) notes (w .room))
+      (noted-in (h .done) t (h .count) notes (w .room))
       ∙ sym (ap (λ (b : Bool). pick b (notesWith (h .done) t (h .count) notes threads) notes) y))
   handed-taken (Returned t ret) r g y w =
       ap (linearizabilityAfter (step r g)) (rw (mark-returned h t ret (placeAt (placeIn flying t))) refl)
@@ -144,14 +130,14 @@ module _ (h : History) (notes flying : List ℕ) (k : Kind) (S : Standing h note
       (marks-completed h flying (S .long) (S .marks) t (w .known) ret (S .good .parts .last) (w .found)))
 
   module _ (v : CEvent) (r : Recorded) (e : r ≡ comesBy flying k (h .count) v) where
-    came : r ≡ comesTo (look .ok) (h .valid) (kindOf h) flying (h .count) v
+    came : r ≡ comesTo true (h .valid) (kindOf h) flying (h .count) v
     came =
         e
         ∙ ap (λ (b : Bool). comesTo true b k flying (h .count) v) (sym (S .valid))
         ∙ ap (λ (l : Kind). comesTo true (h .valid) l flying (h .count) v) (S .own)
 
     pub event-fits : isTaken r ≡ true → Fits h v (placeFor v flying (h .count))
-    event-fits y = admitting.event-fits (notesShaped s) h look looked v r came y
+    event-fits y = admitting.event-fits (notesShaped s) h true flying looked v r came y
 
     pub event-taken : isTaken r ≡ true
         → (r ≡ give linearizabilityModel (linearizability h notes) (heard v) .0)
@@ -159,7 +145,7 @@ module _ (h : History) (notes flying : List ℕ) (k : Kind) (S : Standing h note
     event-taken y =
         called v (linearizabilityAfter (step r (next v)) (noted v))
         (handed-taken v r (next v) y (event-fits y)
-        ∙ ap (handed v) (admitting.event-taken (notesShaped s) h look looked v r came y (place v) (threadOf v) (change v) refl refl refl))
+        ∙ ap (handed v) (admitting.event-taken (notesShaped s) h true flying looked v r came y (place v) (threadOf v) (change v) refl refl refl))
 
     -- a refusal leaves all but the validity
     pub event-refused : isTaken r ≡ false → (b : Bool) → b ≡ validAfter true r
@@ -170,7 +156,7 @@ module _ (h : History) (notes flying : List ℕ) (k : Kind) (S : Standing h note
         called v (linearizabilityAfter (step r (off b)) notes)
         (handed-refused v r (off b) y
         ∙ ap (handed v)
-        (admitting.event-refused (notesShaped s) h look looked v r came y b (q ∙ ap (λ (b : Bool). validAfter b r) (sym (S .valid)))))
+        (admitting.event-refused (notesShaped s) h true flying looked v r came y b (q ∙ ap (λ (b : Bool). validAfter b r) (sym (S .valid)))))
 
     pub event-stands : isTaken r ≡ true → Standing (next v) (noted v) (set flying (threadOf v) (change v .mark)) k
     event-stands y = record {

@@ -13,13 +13,13 @@ use Rattle.families.specs.Families.{families}
 use Rattle.families.specs.Objects.{newRegister}
 use Rattle.families.specs.declared.Kind.{Kind}
 use Rattle.families.specs.declared.Object.{Object}
-use Rattle.recording.specs.declared.consistency_tester.Recorded.{Recorded}
-use Rattle.recording.specs.EventSteps.{numberOf as recordedNumber}
+use Rattle.stepping.specs.declared.recorded.Recorded.{Recorded}
+use Rattle.stepping.specs.EventSteps.{numberOf as recordedNumber}
 use Rattle.recording_meaning.specs.Models.{Model}
 use Rattle.recording_meaning.specs.Inputs.{give}
-use Rattle.format.specs.declared.refusal.Refusal.{Refusal}
-use Rattle.format.specs.FileRefusals.{numberOf}
-use Rattle.format.specs.Reader.{got, refused}
+use Rattle.numbers.specs.declared.refusal.Refusal.{Refusal}
+use Rattle.numbers.specs.FileRefusals.{numberOf}
+use Rattle.numbers.specs.Reader.{got, refused}
 use Rattle.format.specs.Format.{header, event}
 use Rattle.corpus.specs.Load.{Load, load, turn, loadFrom, loadOf}
 use Rattle.format.specs.Taking.{first-in}

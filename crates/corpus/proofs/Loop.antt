@@ -4,16 +4,16 @@ use mathlib.Core.Path.{_≡_, refl, sym, ap, _∙_}
 use mathlib.Core.Bool.{Bool, true}
 use mathlib.Core.List.{List}
 use lib.ListN.{length, drop, getD, set, replicate}
-use Rattle.families.specs.Sizes.{threads, capacity}
+use Rattle.values.specs.Sizes.{threads, capacity}
 use Rattle.families.specs.declared.Kind.{Kind}
 use Rattle.families.specs.declared.event.Event.{Event as CEvent}
-use Rattle.recording.specs.declared.consistency_tester.History.{History}
+use Rattle.stepping.specs.declared.history.History.{History}
 use Rattle.recording.specs.declared.linearizability.LinearizabilityTester.{LinearizabilityTester}
-use Rattle.recording.specs.declared.step.Change.{Change}
-use Rattle.recording.specs.Record.{operationAt}
-use Rattle.recording.specs.EventSteps.{isTaken}
+use Rattle.stepping.specs.declared.step.Change.{Change}
+use Rattle.stepping.specs.Record.{operationAt}
+use Rattle.stepping.specs.EventSteps.{isTaken}
 use Rattle.recording.specs.Testers.{linearizability}
-use Rattle.recording.specs.OneStep.{threadOf, changeOf, changed}
+use Rattle.stepping.specs.OneStep.{threadOf, changeOf, changed}
 use Rattle.recording_meaning.specs.Models.{linearizabilityModel}
 use Rattle.corpus.specs.declared.turns.Turn.{Turn}
 use Rattle.corpus.specs.declared.turns.Turn.the-variants.{Stopped, Taken}
@@ -22,7 +22,7 @@ use Rattle.format.specs.ReadAnswers.{heard}
 use Rattle.corpus.specs.Load.{Load, load, loadFrom}
 use Rattle.corpus.specs.LoaderTurns.{comesBy, turnOf, notedBy, Fresh}
 use Rattle.corpus.proofs.Loading.{Running, running, all-loaded, stopped, behind, refused-by, recorded}
-use Rattle.recording.specs.Drawn.{taken-number, refused-number}
+use Rattle.stepping.specs.Drawn.{taken-number, refused-number}
 use Rattle.corpus.proofs.InPlace.{Standing, standing-new, event-fits, event-taken, event-refused, event-stands}
 use Rattle.corpus.proofs.Turning.{Taking, Stopping, unread, unrecorded, stops, takes}
 

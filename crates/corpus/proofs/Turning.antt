@@ -7,18 +7,18 @@ use mathlib.Core.List.{List}
 use borrow.Author.Tests.{eq-eqb, ne-eqb, eqb-true, eqb-false}
 use lib.Dec.{eqb}
 use Rattle.history.specs.Events.{Event, invoked, returned}
-use Rattle.families.specs.Value.{pick}
+use Rattle.values.specs.Value.{pick}
 use Rattle.families.specs.Families.{families}
 use Rattle.families.specs.declared.Kind.{Kind}
 use Rattle.families.specs.declared.event.Event.{Event as CEvent}
 use Rattle.families.specs.declared.event.Event.the-variants.{Invoked, Returned}
-use Rattle.recording.specs.declared.consistency_tester.Recorded.{Recorded}
-use Rattle.recording.specs.EventSteps.{numberOf as recordedNumber, validAfter}
-use Rattle.recording.specs.OneStep.{placeFor}
+use Rattle.stepping.specs.declared.recorded.Recorded.{Recorded}
+use Rattle.stepping.specs.EventSteps.{numberOf as recordedNumber, validAfter}
+use Rattle.stepping.specs.OneStep.{placeFor}
 use Rattle.corpus.specs.declared.turns.Turn.the-variants.{Stopped, Taken}
-use Rattle.format.specs.declared.refusal.Refusal.{Refusal}
-use Rattle.format.specs.FileRefusals.{numberOf}
-use Rattle.format.specs.Reader.{Read, got, refused}
+use Rattle.numbers.specs.declared.refusal.Refusal.{Refusal}
+use Rattle.numbers.specs.FileRefusals.{numberOf}
+use Rattle.numbers.specs.Reader.{Read, got, refused}
 use Rattle.format.specs.ReadAnswers.{said, heard}
 use Rattle.corpus.specs.LoaderTurns.{comesBy, refusedBy, turnBy, turnOf}
 use Rattle.format.specs.Answered.{never}

@@ -3,13 +3,13 @@ use Prim.Native.Nat.{ℕ}
 use mathlib.Core.Path.{_≡_}
 use mathlib.Core.List.{List}
 use Rattle.families.specs.declared.Object.{Object}
-use Rattle.recording.specs.declared.consistency_tester.Made.the-variants.{New}
+use Rattle.stepping.specs.declared.recorded.Made.the-variants.{New}
 use Rattle.recording_meaning.specs.Models.{Model}
 use Rattle.recording_meaning.specs.Meaning.{Means}
-use Rattle.format.specs.Reader.{got}
+use Rattle.numbers.specs.Reader.{got}
 use Rattle.format.specs.Format.{header}
 use Rattle.families.specs.RefusalsExactly.{start-exactly}
-use Rattle.families.specs.declared.refusal.Check.the-variants.{Clear}
+use Rattle.values.specs.declared.refusal.Check.the-variants.{Clear}
 use Rattle.format.specs.FileSays.{header-clear}
 
 pub made-new : (M : Model) → Means M → (s : List ℕ) (o : Object) (n : ℕ) → header s ≡ got o n → M .made o ≡ New

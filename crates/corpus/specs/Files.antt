@@ -10,12 +10,12 @@ use Rattle.history.specs.Events.{Event, Events}
 use Rattle.families.specs.Families.{families}
 use Rattle.families.specs.declared.Kind.{Kind}
 use Rattle.families.specs.declared.Object.{Object}
-use Rattle.recording.specs.EventSteps.{numberOf as recordedNumber}
+use Rattle.stepping.specs.EventSteps.{numberOf as recordedNumber}
 use Rattle.recording_meaning.specs.Models.{Model}
 use Rattle.recording_meaning.specs.Inputs.{give, feed}
-use Rattle.format.specs.declared.refusal.Refusal.{Refusal}
-use Rattle.format.specs.FileRefusals.{refusal-number}
-use Rattle.format.specs.Reader.{Read, got, refused}
+use Rattle.numbers.specs.declared.refusal.Refusal.{Refusal}
+use Rattle.numbers.specs.FileRefusals.{refusal-number}
+use Rattle.numbers.specs.Reader.{Read, got, refused}
 use Rattle.format.specs.Format.{header, event}
 use Rattle.corpus.specs.Load.{Load, load, loadFrom, loadOf}
 use Rattle.format.specs.Taking.{first-in}

@@ -10,12 +10,12 @@ use Rattle.families.specs.Families.{families}
 use Rattle.families.specs.Objects.{newRegister}
 use Rattle.families.specs.declared.Kind.{Kind}
 use Rattle.families.specs.declared.Object.{Object}
-use Rattle.recording.specs.declared.consistency_tester.Recorded.{Recorded}
-use Rattle.recording.specs.EventSteps.{numberOf as recordedNumber}
+use Rattle.stepping.specs.declared.recorded.Recorded.{Recorded}
+use Rattle.stepping.specs.EventSteps.{numberOf as recordedNumber}
 use Rattle.recording_meaning.specs.Models.{Model}
 use Rattle.recording_meaning.specs.Inputs.{give as record-event}
-use Rattle.format.specs.FileRefusals.{numberOf}
-use Rattle.format.specs.Reader.{Read, got, refused}
+use Rattle.numbers.specs.FileRefusals.{numberOf}
+use Rattle.numbers.specs.Reader.{Read, got, refused}
 use Rattle.format.specs.Format.{header, event}
 
 -- What loading comes to: the number of the refusal, the place of the event that it befell, and the tester as it stands.

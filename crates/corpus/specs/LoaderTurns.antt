@@ -5,23 +5,23 @@ use mathlib.Core.Bool.{true}
 use mathlib.Core.List.{List}
 use lib.Dec.{eqb}
 use Rattle.history.specs.Events.{Event}
-use Rattle.families.specs.Value.{pick}
+use Rattle.values.specs.Value.{pick}
 use Rattle.families.specs.Refusals.{startCheck}
-use Rattle.families.specs.declared.refusal.Check.the-variants.{Clear}
+use Rattle.values.specs.declared.refusal.Check.the-variants.{Clear}
 use Rattle.families.specs.Families.{families}
 use Rattle.families.specs.declared.Kind.{Kind}
 use Rattle.families.specs.declared.Object.{Object}
 use Rattle.families.specs.declared.event.Event.{Event as CEvent}
-use Rattle.recording.specs.declared.consistency_tester.Recorded.{Recorded}
+use Rattle.stepping.specs.declared.recorded.Recorded.{Recorded}
 use Rattle.recording.specs.declared.linearizability.LinearizabilityTester.{LinearizabilityTester}
-use Rattle.recording.specs.EventSteps.{numberOf as recordedNumber, validAfter}
+use Rattle.stepping.specs.EventSteps.{numberOf as recordedNumber, validAfter}
 use Rattle.recording.specs.Pass.{notedAt}
-use Rattle.recording.specs.OneStep.{comesTo, placeFor}
+use Rattle.stepping.specs.OneStep.{comesTo, placeFor}
 use Rattle.recording_meaning.specs.Models.{linearizabilityModel}
 use Rattle.corpus.specs.declared.turns.Turn.{Turn}
 use Rattle.corpus.specs.declared.turns.Turn.the-variants.{Stopped, Taken}
-use Rattle.format.specs.FileRefusals.{numberOf}
-use Rattle.format.specs.Reader.{Read, got, refused}
+use Rattle.numbers.specs.FileRefusals.{numberOf}
+use Rattle.numbers.specs.Reader.{Read, got, refused}
 use Rattle.format.specs.ReadAnswers.{said}
 
 -- what an event comes to at a valid tester in shape, of an object k and with so many operations; the marks say what is in flight

@@ -11,10 +11,10 @@ use Rattle.families.specs.Families.{families}
 use Rattle.families.specs.Objects.{newRegister}
 use Rattle.families.specs.declared.Kind.{Kind}
 use Rattle.families.specs.declared.Object.{Object}
-use Rattle.recording.specs.declared.consistency_tester.History.{History}
+use Rattle.stepping.specs.declared.history.History.{History}
 use Rattle.recording.specs.declared.sequential_consistency.SequentialConsistencyTester.{SequentialConsistencyTester}
 use Rattle.recording.specs.declared.linearizability.LinearizabilityTester.{LinearizabilityTester}
-use Rattle.recording.specs.EventSteps.{numberOf as recordedNumber}
+use Rattle.stepping.specs.EventSteps.{numberOf as recordedNumber}
 use Rattle.recording.specs.Testers.{sequential}
 use Rattle.recording_meaning.specs.Models.{sequentialModel, linearizabilityModel}
 use Rattle.recording_meaning.specs.Inputs.{give}
@@ -23,8 +23,8 @@ use Rattle.recording_meaning.specs.EventTurns.{Good}
 use Rattle.recording_meaning.specs.Reaching.{good-new}
 use Rattle.recording_meaning.specs.TesterFeeding.{good-give}
 use Rattle.recording_meaning.specs.TestersAlike.{stepOf, given}
-use Rattle.format.specs.FileRefusals.{numberOf}
-use Rattle.format.specs.Reader.{Read, got, refused}
+use Rattle.numbers.specs.FileRefusals.{numberOf}
+use Rattle.numbers.specs.Reader.{Read, got, refused}
 use Rattle.format.specs.Format.{header, event}
 use Rattle.corpus.specs.Load.{Load, load, onward, turn, loadFrom, loadBy, loadOf}
 

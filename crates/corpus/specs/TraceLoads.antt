@@ -3,34 +3,13 @@ use mathlib.Core.Path.{_≡_, refl}
 use lib.IntN.{pos}
 use Rattle.families.specs.Objects.{newRegister}
 use Rattle.families.specs.Family.{familyOf, opFamily, retFamily, familyNumber}
-use Rattle.families.specs.Refusals.{familyCheck, opBelongs, retBelongs, isClear, startCheck, shapeCheck, sizeCheck, inOrder}
-use Rattle.recording.specs.Record.{fresh, isPending, flyingBy, flyingFrom, findFlying}
-use Rattle.recording.specs.Shape.{
-  doneBy,
-  countDone,
-  notable,
-  allBelow,
-  outcomeFits,
-  operationFits,
-  operationsFit,
-  noneOf,
-  flyingLast,
-  countsRight,
-  shapeOf,
-  notesFit,
-  notesFitFrom,
-  notesShaped,
-}
-use Rattle.recording.specs.EventSteps.{numberOf as recordedNumber, isTaken, begunOf, invokeOf, returnOf}
-use Rattle.recording.specs.Testers.{
-  newSequential,
-  sequentialInvoke,
-  sequentialReturn,
-  newLinearizability,
-  notesWith,
-  linearizabilityInvoke,
-  linearizabilityReturn,
-}
+use Rattle.families.specs.Refusals.{familyCheck, opBelongs, retBelongs, startCheck, shapeCheck, sizeCheck}
+use Rattle.values.specs.Checks.{isClear, inOrder}
+use Rattle.stepping.specs.Record.{fresh, isPending, flyingBy, flyingFrom, findFlying}
+use Rattle.stepping.specs.Shape.{doneBy, countDone, notable, allBelow, outcomeFits, operationFits, operationsFit, noneOf, flyingLast, countsRight, shapeOf, notesFit, notesFitFrom}
+use Rattle.recording.specs.Testers.{notesShaped}
+use Rattle.stepping.specs.EventSteps.{numberOf as recordedNumber, isTaken, begunOf, invokeOf, returnOf}
+use Rattle.recording.specs.Testers.{newSequential, sequentialInvoke, sequentialReturn, newLinearizability, notesWith, linearizabilityInvoke, linearizabilityReturn}
 use Rattle.recording_meaning.specs.Models.{Model, sequentialModel, linearizabilityModel}
 use Rattle.recording_meaning.specs.Inputs.{feed}
 use Rattle.format.specs.TraceFiles.{trace-3, trace-14, trace-header, trace-spelled}

@@ -2,7 +2,7 @@
 use crate::feeding::feed;
 use format::header::Begins;
 use format::header::read_header;
-use format::refusal;
+use numbers::refusal;
 use recording::linearizability::LinearizabilityTester;
 ghost use mathlib.Core.Path.{_≡_};
 ghost use Rattle.recording_meaning.specs.Models.{linearizabilityModel};

@@ -2,14 +2,14 @@
 // has its operation in flight, as `Look` does.
 use families::Kind;
 use families::event::Event;
-use families::sizes::THREADS;
 use format::events::EventRead;
 use format::events::read_event;
-use format::refusal;
-use recording::consistency_tester;
-use recording::refusal::valid_after;
-use recording::step::comes_to;
-use recording::step::place_for;
+use numbers::refusal;
+use stepping::recorded;
+use stepping::refusal::valid_after;
+use stepping::step::comes_to;
+use stepping::step::place_for;
+use values::sizes::THREADS;
 ghost use mathlib.Core.Path.{_≡_};
 ghost use Prim.Native.Nat.{_≤_};
 ghost use lib.ListN.{length, drop};
@@ -49,7 +49,7 @@ pub(crate) fn turn_at(
         },
         EventRead::Event { event, used } => {
             let recorded = comes_to(event, true, true, kind, flying, count);
-            let number = consistency_tester::number(recorded);
+            let number = recorded::number(recorded);
             if number != 0 {
                 let valid = valid_after(true, recorded);
                 return Turn::Stopped { number, valid };

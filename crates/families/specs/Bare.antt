@@ -8,26 +8,26 @@ use lib.IntN.{ℤ}
 use lib.Dec.{ltb, eqb}
 use borrow.Author.Tests.{ltb-true, eqb-false}
 use native.Mathlib.Omega.{arith}
-use Rattle.families.specs.Value.{pick}
-use Rattle.families.specs.Sizes.{room}
-use Rattle.families.specs.Stack.{pushes, pushed, pops, stackRoom, storageAnswer, frees, depthAfter}
+use Rattle.values.specs.Value.{pick}
+use Rattle.values.specs.Sizes.{room}
+use Rattle.objects.specs.Stack.{pushes, pushed, pops, stackRoom, storageAnswer, frees, depthAfter}
 use Rattle.families.specs.Family.{Family, stacks, familyOf, opFamily, retFamily}
 use Rattle.families.specs.Families.{sameRet}
 use Rattle.families.specs.Same.{returns}
 use Rattle.families.specs.Placing.{heldOf, kindOf, heldAfter, answerOf, rightOf, takes, taken, leavesWrong}
 use Rattle.families.specs.Refusals.{opBelongs, retBelongs, shapeCheck, roomCheck, tookRoom}
-use Rattle.families.specs.Storage.{HasRoom}
+use Rattle.objects.specs.Storage.{HasRoom}
 use Rattle.families.specs.Room.{own-op, own-ret, depth-clear, RoomIn, Room, step-room, Fits}
 use Rattle.families.specs.declared.Kind.{Kind}
 use Rattle.families.specs.declared.Kind.the-variants.{Register, WORegister, Vec}
 use Rattle.families.specs.declared.Op.{Op}
 use Rattle.families.specs.declared.Op.the-variants.{Register as ORegister, WORegister as OWORegister, Vec as OVec}
 use Rattle.families.specs.declared.Ret.{Ret}
-use Rattle.families.specs.declared.vec.VecOp.{VecOp}
-use Rattle.families.specs.declared.vec.VecOp.the-variants.{Push, Pop, Len}
-use Rattle.families.specs.declared.placing.Held.{Held}
-use Rattle.families.specs.declared.refusal.Refusal.the-variants.{NoRoom}
-use Rattle.families.specs.declared.refusal.Check.the-variants.{Clear, Refused}
+use Rattle.objects.specs.declared.vec.VecOp.{VecOp}
+use Rattle.objects.specs.declared.vec.VecOp.the-variants.{Push, Pop, Len}
+use Rattle.values.specs.declared.held.Held.{Held}
+use Rattle.values.specs.declared.refusal.Refusal.the-variants.{NoRoom}
+use Rattle.values.specs.declared.refusal.Check.the-variants.{Clear, Refused}
 
 -- in shape is room for no operation more
 

@@ -3,17 +3,17 @@ use Prim.Native.Nat.{ℕ}
 use mathlib.Core.List.{List}
 use lib.IntN.{ℤ}
 use lib.Dec.{eqb}
-use Rattle.families.specs.Value.{pick, zigzag, signed}
-use Rattle.families.specs.Coded.{coded, maybeCoded, maybeFrom}
+use Rattle.values.specs.Value.{pick, zigzag, signed}
+use Rattle.values.specs.Coded.{coded, maybeCoded, maybeFrom}
 use Rattle.families.specs.Family.{Family, registers, write-onces, stacks}
 use Rattle.families.specs.Objects.{newRegister, newOnce, newStack}
-use Rattle.families.specs.Register.{registerOpCoded, registerOpForm, registerOpFrom, registerRetCoded, registerRetForm, registerRetFrom}
-use Rattle.families.specs.WriteOnce.{onceOpCoded, onceOpForm, onceOpFrom, onceRetCoded, onceRetForm, onceRetFrom}
-use Rattle.families.specs.Stack.{stackOpCoded, stackOpForm, stackOpFrom, stackRetCoded, stackRetForm, stackRetFrom}
-use Rattle.families.specs.declared.coded.Coded.{Coded}
-use Rattle.families.specs.declared.coded.Form.{Form}
-use Rattle.families.specs.declared.coded.StartForm.{StartForm}
-use Rattle.families.specs.declared.coded.StartForm.the-variants.{Unknown, Number, Flagged, Values}
+use Rattle.objects.specs.Register.{registerOpCoded, registerOpForm, registerOpFrom, registerRetCoded, registerRetForm, registerRetFrom}
+use Rattle.objects.specs.WriteOnce.{onceOpCoded, onceOpForm, onceOpFrom, onceRetCoded, onceRetForm, onceRetFrom}
+use Rattle.objects.specs.Stack.{stackOpCoded, stackOpForm, stackOpFrom, stackRetCoded, stackRetForm, stackRetFrom}
+use Rattle.values.specs.declared.coded.Coded.{Coded}
+use Rattle.values.specs.declared.coded.Form.{Form}
+use Rattle.values.specs.declared.coded.StartForm.{StartForm}
+use Rattle.values.specs.declared.coded.StartForm.the-variants.{Unknown, Number, Flagged, Values}
 use Rattle.families.specs.declared.Kind.{Kind}
 use Rattle.families.specs.declared.Kind.the-variants.{Register, WORegister, Vec}
 use Rattle.families.specs.declared.Object.{Object}

@@ -7,20 +7,21 @@ use native.Mathlib.Omega.{arith}
 use borrow.Author.Tests.{eq-eqb, le-ltb}
 use lib.IntN.{ℤ}
 use lib.Dec.{eqb}
-use Rattle.families.specs.Sizes.{room, startRoom}
-use Rattle.families.specs.Value.{pick, signed}
-use Rattle.families.specs.Coded.{maybeCoded, maybeFrom}
-use Rattle.families.specs.Stack.{depthCheck, lowCheck}
+use Rattle.values.specs.Sizes.{room, startRoom}
+use Rattle.values.specs.Value.{pick, signed}
+use Rattle.values.specs.Coded.{maybeCoded, maybeFrom}
+use Rattle.objects.specs.Stack.{depthCheck, lowCheck}
 use Rattle.families.specs.Family.{Family, registers, write-onces, stacks, familyOf, opFamily, retFamily, familyNumber}
 use Rattle.families.specs.Objects.{newRegister, newOnce, newStack}
 use Rattle.families.specs.Codes.{opFrom, retFrom, startCoded, startFrom}
-use Rattle.families.specs.CodesTell.{sent-back}
-use Rattle.families.specs.Refusals.{inOrder, familyCheck, opBelongs, retBelongs, shapeCheck, sizeCheck, startCheck}
-use Rattle.families.specs.declared.coded.Coded.{Coded}
-use Rattle.families.specs.declared.value.Maybe.the-variants.{Nothing, Value}
+use Rattle.values.specs.Sent.{sent-back}
+use Rattle.values.specs.Checks.{inOrder}
+use Rattle.families.specs.Refusals.{familyCheck, opBelongs, retBelongs, shapeCheck, sizeCheck, startCheck}
+use Rattle.values.specs.declared.coded.Coded.{Coded}
+use Rattle.values.specs.declared.value.Maybe.the-variants.{Nothing, Value}
 use Rattle.families.specs.declared.Kind.{Kind}
 use Rattle.families.specs.declared.Kind.the-variants.{Register, WORegister, Vec}
-use Rattle.families.specs.declared.refusal.Check.the-variants.{Clear}
+use Rattle.values.specs.declared.refusal.Check.the-variants.{Clear}
 
 -- A start of at most 32 values is one that a constructor takes.
 pub start-clear : (c : Coded) (items : List ℤ) → c .count ≤ startRoom → startCheck (startFrom c items .kind) ≡ Clear

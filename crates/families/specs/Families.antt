@@ -4,15 +4,15 @@ use mathlib.Core.List.{List, [], _∷_}
 use lib.IntN.{ℤ, pos}
 use lib.Dec.{eqb}
 use Rattle.history.specs.Object.{Object}
-use Rattle.families.specs.Value.{pick}
-use Rattle.families.specs.Coded.{sameCoded}
+use Rattle.values.specs.Value.{pick}
+use Rattle.values.specs.Coded.{sameCoded}
 use Rattle.families.specs.Family.{retFamily, familyNumber}
-use Rattle.families.specs.Register.{registerAnswer, registerAfter}
-use Rattle.families.specs.WriteOnce.{onceAnswer, onceAfter}
-use Rattle.families.specs.Stack.{first, stackAnswer, stackAfter}
+use Rattle.objects.specs.Register.{registerAnswer, registerAfter}
+use Rattle.objects.specs.WriteOnce.{onceAnswer, onceAfter}
+use Rattle.objects.specs.Stack.{first, stackAnswer, stackAfter}
 use Rattle.families.specs.Codes.{retCoded}
-use Rattle.families.specs.declared.value.Maybe.{Maybe}
-use Rattle.families.specs.declared.value.Maybe.the-variants.{Nothing, Value}
+use Rattle.values.specs.declared.value.Maybe.{Maybe}
+use Rattle.values.specs.declared.value.Maybe.the-variants.{Nothing, Value}
 use Rattle.families.specs.declared.Op.{Op}
 use Rattle.families.specs.declared.Op.the-variants.{Register as ORegister, WORegister as OWORegister, Vec as OVec}
 use Rattle.families.specs.declared.Ret.{Ret}

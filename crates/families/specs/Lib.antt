@@ -1,9 +1,3 @@
-pub mod Sizes
-pub mod Value
-pub mod Coded
-pub mod Register
-pub mod WriteOnce
-pub mod Stack
 pub mod Family
 pub mod Objects
 pub mod Codes
@@ -13,7 +7,6 @@ pub mod Refusals
 pub mod Same
 pub mod CodesTell
 pub mod Decoded
-pub mod Storage
 pub mod PlacingUndone
 pub mod Room
 pub mod States

@@ -3,9 +3,9 @@ use Prim.Native.Nat.{ℕ}
 use mathlib.Core.List.{List}
 use lib.ListN.{replicate}
 use lib.IntN.{ℤ, pos}
-use Rattle.families.specs.Sizes.{room}
-use Rattle.families.specs.declared.value.Maybe.{Maybe}
-use Rattle.families.specs.declared.value.Maybe.the-variants.{Nothing}
+use Rattle.values.specs.Sizes.{room}
+use Rattle.values.specs.declared.value.Maybe.{Maybe}
+use Rattle.values.specs.declared.value.Maybe.the-variants.{Nothing}
 use Rattle.families.specs.declared.Kind.{Kind}
 use Rattle.families.specs.declared.Kind.the-variants.{Register, WORegister, Vec}
 use Rattle.families.specs.declared.Object.{Object}
@@ -13,8 +13,8 @@ use Rattle.families.specs.declared.Op.{Op}
 use Rattle.families.specs.declared.Op.the-variants.{Register as ORegister}
 use Rattle.families.specs.declared.Ret.{Ret}
 use Rattle.families.specs.declared.Ret.the-variants.{Register as RRegister}
-use Rattle.families.specs.declared.register.RegisterOp.the-variants.{Write}
-use Rattle.families.specs.declared.register.RegisterRet.the-variants.{WriteOk}
+use Rattle.objects.specs.declared.register.RegisterOp.the-variants.{Write}
+use Rattle.objects.specs.declared.register.RegisterRet.the-variants.{WriteOk}
 
 abbrev pub zeros : List ℤ
 zeros = replicate room (pos 0)

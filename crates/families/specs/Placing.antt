@@ -5,30 +5,26 @@ use mathlib.Core.List.{List}
 use lib.ListN.{set}
 use lib.IntN.{ℤ, pos}
 use lib.Dec.{ltb, eqb}
-use Rattle.families.specs.Value.{pick}
-use Rattle.families.specs.Register.{registerAnswer, registerAfter}
-use Rattle.families.specs.WriteOnce.{onceAnswer, onceAfter}
-use Rattle.families.specs.Sizes.{room}
-use Rattle.families.specs.Stack.{itemAt, storageAnswer, depthAfter, itemsAfter, stackChanges, pops, popped}
+use Rattle.values.specs.Value.{pick}
+use Rattle.values.specs.Held.{held}
+use Rattle.objects.specs.Register.{registerAnswer, registerAfter}
+use Rattle.objects.specs.WriteOnce.{onceAnswer, onceAfter}
+use Rattle.values.specs.Sizes.{room}
+use Rattle.objects.specs.Stack.{itemAt, storageAnswer, depthAfter, itemsAfter, stackChanges, pops, popped}
 use Rattle.families.specs.Families.{sameRet}
-use Rattle.families.specs.declared.value.Maybe.{Maybe}
-use Rattle.families.specs.declared.value.Maybe.the-variants.{Nothing, Value}
+use Rattle.values.specs.declared.value.Maybe.{Maybe}
+use Rattle.values.specs.declared.value.Maybe.the-variants.{Nothing, Value}
 use Rattle.families.specs.declared.Kind.{Kind}
 use Rattle.families.specs.declared.Kind.the-variants.{Register, WORegister, Vec}
 use Rattle.families.specs.declared.Op.{Op}
 use Rattle.families.specs.declared.Op.the-variants.{Register as ORegister, WORegister as OWORegister, Vec as OVec}
 use Rattle.families.specs.declared.Ret.{Ret}
 use Rattle.families.specs.declared.Ret.the-variants.{Register as RRegister, WORegister as RWORegister, Vec as RVec}
-use Rattle.families.specs.declared.placing.Held.{Held}
-use Rattle.families.specs.declared.placing.Undo.{Undo}
-use Rattle.families.specs.declared.placing.Acted.{Acted}
+use Rattle.values.specs.declared.held.Held.{Held}
+use Rattle.values.specs.declared.held.Undo.{Undo}
+use Rattle.values.specs.declared.held.Acted.{Acted}
 use Rattle.families.specs.declared.placing.Outcome.{Outcome}
 use Rattle.families.specs.declared.placing.Outcome.the-variants.{Pending, Returned}
-
--- the two words
-
-abbrev pub held : ℤ → ℕ → Held
-held v h = record { value = v; height = h }
 
 -- a write-once register holds nothing at height 0
 unfoldable pub onceOf : Held → Maybe

@@ -9,15 +9,15 @@ use lib.IntN.{ℤ, pos}
 use lib.Dec.{ltb, leb, eqb}
 use borrow.Author.Tests.{lt-ltb, leb-true, eqb-false}
 use native.Mathlib.Omega.{arith}
-use Rattle.families.specs.Value.{pick}
-use Rattle.families.specs.Sizes.{room}
-use Rattle.families.specs.Stack.{itemAt, frees, itemsAfter, stackChanges, stackWritten}
+use Rattle.values.specs.Value.{pick}
+use Rattle.values.specs.Sizes.{room}
+use Rattle.objects.specs.Stack.{itemAt, frees, itemsAfter, stackChanges, stackWritten}
 use Rattle.families.specs.Placing.{leavesOf, changes, actedOf, backOf}
 use Rattle.families.specs.declared.Op.{Op}
 use Rattle.families.specs.declared.Op.the-variants.{Register as ORegister, WORegister as OWORegister, Vec as OVec}
-use Rattle.families.specs.declared.placing.Held.{Held}
-use Rattle.families.specs.declared.vec.VecOp.{VecOp}
-use Rattle.families.specs.declared.vec.VecOp.the-variants.{Push, Pop, Len}
+use Rattle.values.specs.declared.held.Held.{Held}
+use Rattle.objects.specs.declared.vec.VecOp.{VecOp}
+use Rattle.objects.specs.declared.vec.VecOp.the-variants.{Push, Pop, Len}
 
 -- what an operation writes at the place that it changes
 abbrev written : Op → ℤ

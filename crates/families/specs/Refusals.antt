@@ -1,36 +1,20 @@
--- Why an object, an operation or a return is refused, with document 01's numbers.
-use Prim.Native.Nat.{ℕ}
-use mathlib.Core.Bool.{Bool, true, false}
+-- Why an object, an operation or a return is refused.
+use mathlib.Core.Bool.{Bool, false}
 use lib.Dec.{eqb}
-use Rattle.families.specs.Value.{pick}
+use Rattle.values.specs.Value.{pick}
+use Rattle.values.specs.Checks.{inOrder}
 use Rattle.families.specs.Family.{Family, familyOf, opFamily, retFamily, familyNumber}
-use Rattle.families.specs.Stack.{pushed, depthCheck, lowCheck, stackRoom}
+use Rattle.objects.specs.Stack.{pushed, depthCheck, lowCheck, stackRoom}
 use Rattle.families.specs.declared.Kind.{Kind}
 use Rattle.families.specs.declared.Kind.the-variants.{Register, WORegister, Vec}
 use Rattle.families.specs.declared.Op.{Op}
 use Rattle.families.specs.declared.Op.the-variants.{Register as ORegister, WORegister as OWORegister, Vec as OVec}
 use Rattle.families.specs.declared.Ret.{Ret}
 use Rattle.families.specs.declared.Ret.the-variants.{Register as RRegister, WORegister as RWORegister, Vec as RVec}
-use Rattle.families.specs.declared.placing.Held.{Held}
-use Rattle.families.specs.declared.refusal.Refusal.{Refusal}
-use Rattle.families.specs.declared.refusal.Refusal.the-variants.{OtherFamily, NoRoom, StartTooDeep, OutOfShape}
-use Rattle.families.specs.declared.refusal.Check.{Check}
-use Rattle.families.specs.declared.refusal.Check.the-variants.{Clear, Refused}
-
-unfoldable pub numberOf : Refusal → ℕ
-numberOf OtherFamily = 3
-numberOf NoRoom = 7
-numberOf StartTooDeep = 8
-numberOf OutOfShape = 9
-
-unfoldable pub isClear : Check → Bool
-isClear Clear = true
-isClear (Refused r) = false
-
--- the first refusal of two checks
-unfoldable pub inOrder : Check → Check → Check
-inOrder Clear b = b
-inOrder (Refused r) b = Refused r
+use Rattle.values.specs.declared.held.Held.{Held}
+use Rattle.values.specs.declared.refusal.Refusal.the-variants.{OtherFamily}
+use Rattle.values.specs.declared.refusal.Check.{Check}
+use Rattle.values.specs.declared.refusal.Check.the-variants.{Clear, Refused}
 
 -- whether an operation or a return belongs to an object: 3 for another family
 

@@ -7,20 +7,21 @@ use mathlib.Core.Logic.{_↔_, _≢_}
 use lib.Dec.{ltb, eqb}
 use borrow.Author.Tests.{ltb-true, ltb-false, lt-ltb, le-ltb, eqb-true, eqb-false, eq-eqb, ne-eqb}
 use native.Mathlib.Omega.{arith}
-use Rattle.families.specs.Value.{pick}
-use Rattle.families.specs.Sizes.{room, startRoom}
-use Rattle.families.specs.Stack.{depthCheck, lowCheck}
+use Rattle.values.specs.Value.{pick}
+use Rattle.values.specs.Sizes.{room, startRoom}
+use Rattle.objects.specs.Stack.{depthCheck, lowCheck}
 use Rattle.families.specs.Family.{Family, familyOf, opFamily, retFamily, familyNumber, same-family}
 use Rattle.families.specs.Objects.{newRegister, newOnce, newStack, standIn}
-use Rattle.families.specs.Refusals.{numberOf, inOrder, familyCheck, opBelongs, retBelongs, shapeCheck, sizeCheck, startCheck}
+use Rattle.values.specs.Checks.{numberOf, inOrder}
+use Rattle.families.specs.Refusals.{familyCheck, opBelongs, retBelongs, shapeCheck, sizeCheck, startCheck}
 use Rattle.families.specs.declared.Kind.{Kind}
 use Rattle.families.specs.declared.Kind.the-variants.{Register, WORegister, Vec}
 use Rattle.families.specs.declared.Op.{Op}
 use Rattle.families.specs.declared.Ret.{Ret}
-use Rattle.families.specs.declared.refusal.Refusal.{Refusal}
-use Rattle.families.specs.declared.refusal.Refusal.the-variants.{OtherFamily, NoRoom, StartTooDeep, OutOfShape}
-use Rattle.families.specs.declared.refusal.Check.{Check}
-use Rattle.families.specs.declared.refusal.Check.the-variants.{Clear, Refused}
+use Rattle.values.specs.declared.refusal.Refusal.{Refusal}
+use Rattle.values.specs.declared.refusal.Refusal.the-variants.{OtherFamily, NoRoom, StartTooDeep, OutOfShape}
+use Rattle.values.specs.declared.refusal.Check.{Check}
+use Rattle.values.specs.declared.refusal.Check.the-variants.{Clear, Refused}
 
 -- A stack of depth d: 9 beyond the room of a stack, 8 beyond that of a start.
 abbrev pub StackStartWhen : ℕ → Check → Type 0

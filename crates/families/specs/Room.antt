@@ -6,26 +6,27 @@ use mathlib.Core.Logic.{_↔_, _≢_}
 use lib.Dec.{ltb}
 use borrow.Author.Tests.{le-ltb, ltb-false, ne-eqb}
 use native.Mathlib.Omega.{arith}
-use Rattle.families.specs.Value.{pick}
-use Rattle.families.specs.Sizes.{room, capacity}
-use Rattle.families.specs.Stack.{pushes, depthCheck, stackRoom, frees, depthAfter}
+use Rattle.values.specs.Value.{pick}
+use Rattle.values.specs.Sizes.{room, capacity}
+use Rattle.objects.specs.Stack.{pushes, depthCheck, stackRoom, frees, depthAfter}
 use Rattle.families.specs.Family.{Family, registers, write-onces, stacks, familyOf, opFamily, retFamily}
 use Rattle.families.specs.RefusalsExactly.{op-exactly, ret-exactly, start-exactly}
 use Rattle.families.specs.Placing.{heldOf, heldAfter}
-use Rattle.families.specs.Refusals.{numberOf, isClear, inOrder, opBelongs, retBelongs, shapeCheck, startCheck, roomCheck}
-use Rattle.families.specs.Storage.{HasRoom}
+use Rattle.values.specs.Checks.{numberOf, isClear, inOrder}
+use Rattle.families.specs.Refusals.{opBelongs, retBelongs, shapeCheck, startCheck, roomCheck}
+use Rattle.objects.specs.Storage.{HasRoom}
 use Rattle.families.specs.declared.Kind.{Kind}
 use Rattle.families.specs.declared.Kind.the-variants.{Register, WORegister, Vec}
 use Rattle.families.specs.declared.Op.{Op}
 use Rattle.families.specs.declared.Op.the-variants.{Register as ORegister, WORegister as OWORegister, Vec as OVec}
 use Rattle.families.specs.declared.Ret.{Ret}
-use Rattle.families.specs.declared.vec.VecOp.{VecOp}
-use Rattle.families.specs.declared.vec.VecOp.the-variants.{Push, Pop, Len}
-use Rattle.families.specs.declared.placing.Held.{Held}
-use Rattle.families.specs.declared.refusal.Refusal.{Refusal}
-use Rattle.families.specs.declared.refusal.Refusal.the-variants.{OtherFamily, NoRoom, StartTooDeep, OutOfShape}
-use Rattle.families.specs.declared.refusal.Check.{Check}
-use Rattle.families.specs.declared.refusal.Check.the-variants.{Clear, Refused}
+use Rattle.objects.specs.declared.vec.VecOp.{VecOp}
+use Rattle.objects.specs.declared.vec.VecOp.the-variants.{Push, Pop, Len}
+use Rattle.values.specs.declared.held.Held.{Held}
+use Rattle.values.specs.declared.refusal.Refusal.{Refusal}
+use Rattle.values.specs.declared.refusal.Refusal.the-variants.{OtherFamily, NoRoom, StartTooDeep, OutOfShape}
+use Rattle.values.specs.declared.refusal.Check.{Check}
+use Rattle.values.specs.declared.refusal.Check.the-variants.{Clear, Refused}
 
 -- the object's numbers are none of those that say what became of an event
 pub not-event : (r : Refusal) → (numberOf r ≡ 0 → ⊥) × ((numberOf r ≡ 4 → ⊥) × (numberOf r ≡ 5 → ⊥))

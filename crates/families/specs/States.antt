@@ -3,24 +3,24 @@ use mathlib.Core.Path.{_≡_, refl, sym, ap, _∙_}
 use mathlib.Core.List.{List, [], _∷_}
 use lib.ListN.{length}
 use lib.IntN.{ℤ}
-use Rattle.families.specs.Sizes.{room}
-use Rattle.families.specs.WriteOnce.{onceAfter}
-use Rattle.families.specs.Stack.{first, heldValues}
+use Rattle.values.specs.Sizes.{room}
+use Rattle.objects.specs.WriteOnce.{onceAfter}
+use Rattle.objects.specs.Stack.{first, heldValues}
 use Rattle.families.specs.Families.{State, listed, answers, right, after, sameRet}
 use Rattle.families.specs.Family.{Family, registers, write-onces, stacks, familyOf, opFamily}
 use Rattle.families.specs.Placing.{onceOf, heldOnce, heldOf, kindOf, answerOf, rightOf, heldAfter, leavesOf}
 use Rattle.families.specs.Refusals.{opBelongs}
-use Rattle.families.specs.Storage.{storage-answers, storage-leaves}
+use Rattle.objects.specs.Storage.{storage-answers, storage-leaves}
 use Rattle.families.specs.Room.{Fits, own-op}
-use Rattle.families.specs.declared.value.Maybe.{Maybe}
-use Rattle.families.specs.declared.value.Maybe.the-variants.{Nothing, Value}
+use Rattle.values.specs.declared.value.Maybe.{Maybe}
+use Rattle.values.specs.declared.value.Maybe.the-variants.{Nothing, Value}
 use Rattle.families.specs.declared.Kind.{Kind}
 use Rattle.families.specs.declared.Kind.the-variants.{Register, WORegister, Vec}
 use Rattle.families.specs.declared.Op.{Op}
 use Rattle.families.specs.declared.Op.the-variants.{Register as ORegister, WORegister as OWORegister, Vec as OVec}
 use Rattle.families.specs.declared.Ret.{Ret}
-use Rattle.families.specs.declared.placing.Held.{Held}
-use Rattle.families.specs.declared.refusal.Check.the-variants.{Clear}
+use Rattle.values.specs.declared.held.Held.{Held}
+use Rattle.values.specs.declared.refusal.Check.the-variants.{Clear}
 
 -- What an object holds.
 unfoldable pub stateOf : Kind → List ℤ → State

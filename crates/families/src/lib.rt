@@ -1,25 +1,19 @@
 // The families: a register, a write-once register and a stack. All that is particular to one of them stands in
 // this crate, in a file of its own; the crates above see an object, operations and returns.
-pub mod coded;
 pub mod codes;
 pub mod event;
 mod family;
 pub mod placing;
 pub mod refusal;
-pub mod register;
-pub mod sizes;
-pub mod value;
-pub mod vec;
-pub mod write_once_register;
 
-use register::RegisterOp;
-use register::RegisterRet;
-use sizes::ROOM;
-use value::Maybe;
-use vec::VecOp;
-use vec::VecRet;
-use write_once_register::WORegisterOp;
-use write_once_register::WORegisterRet;
+use objects::register::RegisterOp;
+use objects::register::RegisterRet;
+use objects::vec::VecOp;
+use objects::vec::VecRet;
+use objects::write_once_register::WORegisterOp;
+use objects::write_once_register::WORegisterRet;
+use values::sizes::ROOM;
+use values::value::Maybe;
 ghost use mathlib.Core.Path.{_≡_};
 ghost use lib.IntN.{pos};
 ghost use Rattle.families.specs.Objects.{zeros, newRegister, newOnce, newStack, standIn, noOp, noRet};

@@ -4,31 +4,17 @@
 use crate::Kind;
 use crate::Op;
 use crate::Ret;
-use crate::register;
-use crate::sizes::FULL;
-use crate::sizes::ROOM;
-use crate::value::Maybe;
-use crate::vec;
-use crate::write_once_register;
+use objects::register;
+use objects::vec;
+use objects::write_once_register;
+use values::held::Acted;
+use values::held::Held;
+use values::held::Undo;
+use values::sizes::FULL;
+use values::sizes::ROOM;
+use values::value::Maybe;
 ghost use mathlib.Core.Path.{_≡_};
 ghost use Rattle.families.specs.Placing.{onceOf, heldOnce, heldOf, kindOf, answerOf, rightOf, fitsOf, givenOf, actedOf, leavesOf, backOf, takes as takesOf, taken as takenOf, leavesWrong};
-
-// A register's value; a write-once register's value, with height 0 for nothing; a stack's depth as height.
-pub struct Held {
-    pub value: i32,
-    pub height: u32,
-}
-
-// The one item that an operation changed, and what it was before; at FULL: none.
-pub struct Undo {
-    pub cell: u32,
-    pub was: i32,
-}
-
-pub struct Acted {
-    pub held: Held,
-    pub undo: Undo,
-}
 
 // How an operation stands in a history: in flight, or returned.
 pub enum Outcome {

@@ -5,53 +5,13 @@ use crate::Ret;
 use crate::family::family_of;
 use crate::family::op_family;
 use crate::family::ret_family;
-use crate::placing::Held;
-use crate::vec;
+use objects::vec;
+use values::held::Held;
+use values::refusal::Check;
+use values::refusal::Refusal;
+use values::refusal::in_order;
 ghost use mathlib.Core.Path.{_≡_};
-ghost use Rattle.families.specs.Refusals.{numberOf, isClear, inOrder, opBelongs, retBelongs, shapeCheck, sizeCheck, startCheck, roomCheck, tookRoom, stepRoom};
-
-pub enum Refusal {
-    OtherFamily,
-    NoRoom,
-    StartTooDeep,
-    OutOfShape,
-}
-
-pub enum Check {
-    Clear,
-    Refused(Refusal),
-}
-
-// The number of a refusal in document 01.
-pub fn number(refusal: Refusal) -> u8
-    ensures { λ r. ⌜ r ≡ numberOf refusal ⌝ }
-{
-    match refusal {
-        Refusal::OtherFamily => 3,
-        Refusal::NoRoom => 7,
-        Refusal::StartTooDeep => 8,
-        Refusal::OutOfShape => 9,
-    }
-}
-
-pub fn is_clear(check: Check) -> bool
-    ensures { λ r. ⌜ r ≡ isClear check ⌝ }
-{
-    match check {
-        Check::Clear => true,
-        Check::Refused(_) => false,
-    }
-}
-
-// The first refusal of two checks.
-pub fn in_order(first: Check, second: Check) -> Check
-    ensures { λ r. ⌜ r ≡ inOrder first second ⌝ }
-{
-    match first {
-        Check::Clear => second,
-        Check::Refused(_) => first,
-    }
-}
+ghost use Rattle.families.specs.Refusals.{opBelongs, retBelongs, shapeCheck, sizeCheck, startCheck, roomCheck, tookRoom, stepRoom};
 
 // Whether an operation is one of the object's.
 pub fn op_belongs(kind: Kind, op: Op) -> Check

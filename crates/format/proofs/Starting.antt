@@ -9,9 +9,9 @@ use lib.Signed.{mag}
 use mir.Syntax.{w32}
 use mir.Val.{toZ, ofZ, hbits}
 use mir.Facts.{toZ-ofZ}
-use Rattle.families.specs.Value.{signed}
-use Rattle.format.specs.declared.refusal.Refusal.{Refusal}
-use Rattle.format.specs.Reader.{got, refused, from}
+use Rattle.values.specs.Value.{signed}
+use Rattle.numbers.specs.declared.refusal.Refusal.{Refusal}
+use Rattle.numbers.specs.Reader.{got, refused, from}
 use Rattle.format.specs.Format.{value, valuesFrom}
 use Rattle.format.specs.Fields.{from-give, then-got, then-refused}
 

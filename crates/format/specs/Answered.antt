@@ -6,15 +6,15 @@ use lib.IntN.{pos}
 use Rattle.history.specs.Events.{Event, invoked, returned}
 use Rattle.families.specs.Families.{families}
 use Rattle.families.specs.Objects.{newRegister}
-use Rattle.families.specs.declared.coded.Coded.{Coded}
+use Rattle.values.specs.declared.coded.Coded.{Coded}
 use Rattle.families.specs.declared.event.Event.{Event as CEvent}
 use Rattle.families.specs.declared.event.Event.the-variants.{Invoked, Returned}
 use Rattle.families.specs.declared.Object.{Object}
 use Rattle.families.specs.declared.Op.{Op}
 use Rattle.families.specs.declared.Ret.{Ret}
-use Rattle.format.specs.declared.refusal.Refusal.{Refusal}
-use Rattle.format.specs.declared.numbers.NumberRead.{NumberRead}
-use Rattle.format.specs.declared.numbers.NumberRead.the-variants.{Number, Refused as NRefused}
+use Rattle.numbers.specs.declared.refusal.Refusal.{Refusal}
+use Rattle.numbers.specs.declared.NumberRead.{NumberRead}
+use Rattle.numbers.specs.declared.NumberRead.the-variants.{Number, Refused as NRefused}
 use Rattle.format.specs.declared.payload.PayloadRead.{PayloadRead}
 use Rattle.format.specs.declared.payload.PayloadRead.the-variants.{Payload, Refused as PRefused}
 use Rattle.format.specs.declared.operations.OpRead.{OpRead}
@@ -25,8 +25,9 @@ use Rattle.format.specs.declared.events.EventRead.{EventRead}
 use Rattle.format.specs.declared.events.EventRead.the-variants.{Event as EEvent, Refused as ERefused}
 use Rattle.format.specs.declared.header.Begins.the-variants.{At, Refused as BRefused}
 use Rattle.format.specs.declared.header.Header.{Header}
-use Rattle.format.specs.Reader.{Read, got, refused}
-use Rattle.format.specs.ReadAnswers.{asNumber, asPayload, asOp, asRet, heard, asEvent, asHeader}
+use Rattle.numbers.specs.Reader.{Read, got, refused}
+use Rattle.numbers.specs.Number.{asNumber}
+use Rattle.format.specs.ReadAnswers.{asPayload, asOp, asRet, heard, asEvent, asHeader}
 
 pub never : {A : Type 0} → _≡_ {A = ℕ} 0 1 → A
 never z = absurd (omega arith)

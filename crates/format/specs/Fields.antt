@@ -6,10 +6,11 @@ use native.Mathlib.Nat.{add-zero}
 use native.Mathlib.Omega.{arith}
 use lib.ListN.{length, take, drop, length-drop}
 use lib.Seq.{take-all, drop-drop}
-use Rattle.format.specs.declared.refusal.Refusal.{Refusal}
-use Rattle.format.specs.Reader.{Read, got, refused, Reader, later, from, give, refuse, behind, _then_}
-use Rattle.families.specs.Value.{signed}
-use Rattle.format.specs.Format.{number, value}
+use Rattle.numbers.specs.declared.refusal.Refusal.{Refusal}
+use Rattle.numbers.specs.Reader.{Read, got, refused, Reader, later, from, give, refuse, behind, _then_}
+use Rattle.values.specs.Value.{signed}
+use Rattle.numbers.specs.Number.{number}
+use Rattle.format.specs.Format.{value}
 
 -- a part up to the end
 pub tail : (s : List ℕ) (at : ℕ) → take (length s - at) (drop at s) ≡ drop at s

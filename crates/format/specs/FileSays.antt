@@ -8,53 +8,30 @@ use borrow.Author.Tests.{ltb-false}
 use lib.Dec.{ltb, eqb}
 use lib.ListN.{length, drop}
 use Rattle.history.specs.Events.{Event, invoked, returned}
-use Rattle.families.specs.Value.{pick}
-use Rattle.families.specs.Sizes.{startRoom}
+use Rattle.values.specs.Value.{pick}
+use Rattle.values.specs.Sizes.{startRoom}
 use Rattle.families.specs.Family.{familyOf}
 use Rattle.families.specs.Families.{families}
-use Rattle.families.specs.Coded.{coded}
+use Rattle.values.specs.Coded.{coded}
 use Rattle.families.specs.Codes.{opForm, opFrom, retForm, retFrom, startForm, startFrom}
 use Rattle.families.specs.Objects.{zeros}
 use Rattle.families.specs.Refusals.{opBelongs, retBelongs, startCheck}
 use Rattle.families.specs.Decoded.{start-clear, op-from-belongs, ret-from-belongs}
-use Rattle.families.specs.declared.coded.Coded.{Coded}
-use Rattle.families.specs.declared.coded.Form.{Form}
-use Rattle.families.specs.declared.coded.Form.the-variants.{Unknown as NoForm, Bare, Number, Flagged}
-use Rattle.families.specs.declared.coded.StartForm.{StartForm}
-use Rattle.families.specs.declared.coded.StartForm.the-variants.{Unknown as NoStart, Number as StartNumber, Flagged as StartFlagged, Values}
+use Rattle.values.specs.declared.coded.Coded.{Coded}
+use Rattle.values.specs.declared.coded.Form.{Form}
+use Rattle.values.specs.declared.coded.Form.the-variants.{Unknown as NoForm, Bare, Number, Flagged}
+use Rattle.values.specs.declared.coded.StartForm.{StartForm}
+use Rattle.values.specs.declared.coded.StartForm.the-variants.{Unknown as NoStart, Number as StartNumber, Flagged as StartFlagged, Values}
 use Rattle.families.specs.declared.Kind.{Kind}
 use Rattle.families.specs.declared.Object.{Object}
 use Rattle.families.specs.declared.Op.{Op}
 use Rattle.families.specs.declared.Ret.{Ret}
-use Rattle.families.specs.declared.refusal.Check.the-variants.{Clear}
-use Rattle.format.specs.declared.refusal.Refusal.{Refusal}
-use Rattle.format.specs.declared.refusal.Refusal.the-variants.{TooLong, Unopened, Unknown, StartTooDeep}
-use Rattle.format.specs.Reader.{Read, got, refused, Reader, later, from, give, refuse, behind, _then_}
-use Rattle.format.specs.Format.{
-  number,
-  single,
-  flagged,
-  maybe,
-  payload,
-  singleStart,
-  valuesFrom,
-  values,
-  counted,
-  countedStart,
-  startBy,
-  object,
-  start,
-  opening,
-  opens,
-  longest,
-  header,
-  operationOf,
-  operation,
-  answerOf,
-  answer,
-  eventOf,
-  event,
-}
+use Rattle.values.specs.declared.refusal.Check.the-variants.{Clear}
+use Rattle.numbers.specs.declared.refusal.Refusal.{Refusal}
+use Rattle.numbers.specs.declared.refusal.Refusal.the-variants.{TooLong, Unopened, Unknown, StartTooDeep}
+use Rattle.numbers.specs.Reader.{Read, got, refused, Reader, later, from, give, refuse, behind, _then_}
+use Rattle.numbers.specs.Number.{number}
+use Rattle.format.specs.Format.{single, flagged, maybe, payload, singleStart, valuesFrom, values, counted, countedStart, startBy, object, start, opening, opens, longest, header, operationOf, operation, answerOf, answer, eventOf, event}
 
 -- what is read is so, where something is read
 abbrev Says : {A : Type 0} → (A → Type 0) → Read A → Type 0

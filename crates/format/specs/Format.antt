@@ -7,45 +7,25 @@ use lib.ListN.{length, take, set}
 use lib.IntN.{ℤ}
 use lib.Dec.{ltb, eqb}
 use Rattle.history.specs.Events.{Event, invoked, returned}
-use Rattle.families.specs.Value.{pick, signed}
-use Rattle.families.specs.Sizes.{startRoom}
+use Rattle.values.specs.Value.{pick, signed}
+use Rattle.values.specs.Sizes.{startRoom}
 use Rattle.families.specs.Family.{familyOf}
-use Rattle.families.specs.Coded.{coded}
+use Rattle.values.specs.Coded.{coded}
 use Rattle.families.specs.Codes.{opForm, opFrom, retForm, retFrom, startForm, startFrom}
 use Rattle.families.specs.Objects.{zeros}
 use Rattle.families.specs.Families.{families}
-use Rattle.families.specs.declared.coded.Coded.{Coded}
-use Rattle.families.specs.declared.coded.Form.{Form}
-use Rattle.families.specs.declared.coded.Form.the-variants.{Unknown as NoForm, Bare, Number, Flagged}
-use Rattle.families.specs.declared.coded.StartForm.{StartForm}
-use Rattle.families.specs.declared.coded.StartForm.the-variants.{Unknown as NoStart, Number as StartNumber, Flagged as StartFlagged, Values}
+use Rattle.values.specs.declared.coded.Coded.{Coded}
+use Rattle.values.specs.declared.coded.Form.{Form}
+use Rattle.values.specs.declared.coded.Form.the-variants.{Unknown as NoForm, Bare, Number, Flagged}
+use Rattle.values.specs.declared.coded.StartForm.{StartForm}
+use Rattle.values.specs.declared.coded.StartForm.the-variants.{Unknown as NoStart, Number as StartNumber, Flagged as StartFlagged, Values}
 use Rattle.families.specs.declared.Kind.{Kind}
 use Rattle.families.specs.declared.Object.{Object}
 use Rattle.families.specs.declared.Op.{Op}
 use Rattle.families.specs.declared.Ret.{Ret}
-use Rattle.format.specs.declared.refusal.Refusal.the-variants.{TooLong, Unopened, Cut, TooBig, Unknown, StartTooDeep}
-use Rattle.format.specs.Reader.{Read, got, refused, Reader, from, give, refuse, _then_}
-
--- numbers: seven bits to a byte, lowest group first, top bit set when more follow; at most five bytes
-
--- A fifth byte above 15 is refused at once, whatever follows.
-unfoldable pub tooBig : ℕ → ℕ → Bool
-tooBig i b = pick (ltb 3 i) (ltb 15 b) false
-
--- What a byte makes of a number, by whether it is too big and whether it is the last; `sum` is with its group, and i the place behind it.
-abbrev pub groupBy : Bool → Bool → (ℕ → ℕ → Read ℕ) → ℕ → ℕ → Read ℕ
-groupBy true last go i sum = refused TooBig
-groupBy false true go i sum = got sum i
-groupBy false false go i sum = go i sum
-
--- The number from byte i on, where the groups before it sum to `sum`: a byte b at place i adds its group, b % 128, times 128 ^ i.
--- Groups of zero at the end are groups like others.
-unfoldable pub numberFrom : List ℕ → ℕ → ℕ → Read ℕ
-numberFrom [] i sum = refused Cut
-numberFrom (b ∷ bs) i sum = groupBy (tooBig i b) (ltb b 128) (numberFrom bs) (i + 1) (sum + b % 128 * 128 ^ i)
-
-unfoldable pub number : Reader ℕ
-number s = numberFrom s 0 0
+use Rattle.numbers.specs.declared.refusal.Refusal.the-variants.{TooLong, Unopened, Unknown, StartTooDeep}
+use Rattle.numbers.specs.Reader.{refused, Reader, from, give, refuse, _then_}
+use Rattle.numbers.specs.Number.{number}
 
 -- "A signed value v is sent as 2v when v ≥ 0 and -2v - 1 when negative."
 unfoldable pub value : Reader ℤ

@@ -10,47 +10,23 @@ use lib.IntN.{ℤ}
 use lib.Dec.{ltb, eqb}
 use lib.ListN.{length, take, set, length-take}
 use Rattle.history.specs.Events.{invoked, returned}
-use Rattle.families.specs.Value.{pick, signed}
-use Rattle.families.specs.Sizes.{startRoom}
+use Rattle.values.specs.Value.{pick, signed}
+use Rattle.values.specs.Sizes.{startRoom}
 use Rattle.families.specs.Family.{familyOf}
-use Rattle.families.specs.Coded.{coded}
+use Rattle.values.specs.Coded.{coded}
 use Rattle.families.specs.Codes.{opForm, opFrom, retForm, retFrom, startForm, startFrom}
 use Rattle.families.specs.Objects.{zeros}
-use Rattle.families.specs.declared.coded.Coded.{Coded}
-use Rattle.families.specs.declared.coded.Form.{Form}
-use Rattle.families.specs.declared.coded.Form.the-variants.{Unknown as NoForm, Bare, Number, Flagged}
-use Rattle.families.specs.declared.coded.StartForm.{StartForm}
-use Rattle.families.specs.declared.coded.StartForm.the-variants.{Unknown as NoStart, Number as StartNumber, Flagged as StartFlagged, Values}
+use Rattle.values.specs.declared.coded.Coded.{Coded}
+use Rattle.values.specs.declared.coded.Form.{Form}
+use Rattle.values.specs.declared.coded.Form.the-variants.{Unknown as NoForm, Bare, Number, Flagged}
+use Rattle.values.specs.declared.coded.StartForm.{StartForm}
+use Rattle.values.specs.declared.coded.StartForm.the-variants.{Unknown as NoStart, Number as StartNumber, Flagged as StartFlagged, Values}
 use Rattle.families.specs.declared.Kind.{Kind}
 use Rattle.families.specs.declared.Object.{Object}
-use Rattle.format.specs.declared.refusal.Refusal.the-variants.{TooLong, Unopened, Unknown, StartTooDeep}
-use Rattle.format.specs.Reader.{got, refused, Reader, from, give, refuse, _then_}
-use Rattle.format.specs.Format.{
-  number,
-  value,
-  single,
-  flagged,
-  maybe,
-  payload,
-  singleStart,
-  valuesFrom,
-  values,
-  counted,
-  countedStart,
-  startBy,
-  object,
-  start,
-  opening,
-  opens,
-  longest,
-  header,
-  operationOf,
-  answerOf,
-  operation,
-  answer,
-  eventOf,
-  event,
-}
+use Rattle.numbers.specs.declared.refusal.Refusal.the-variants.{TooLong, Unopened, Unknown, StartTooDeep}
+use Rattle.numbers.specs.Reader.{got, refused, Reader, from, give, refuse, _then_}
+use Rattle.numbers.specs.Number.{number}
+use Rattle.format.specs.Format.{value, single, flagged, maybe, payload, singleStart, valuesFrom, values, counted, countedStart, startBy, object, start, opening, opens, longest, header, operationOf, answerOf, operation, answer, eventOf, event}
 use Rattle.format.specs.SameBytes.{same-true}
 use Rattle.format.specs.Taking.{Takes, Field, from-takes, Built, one-number, no-bytes, never, either, next-to, fewer, built-field}
 

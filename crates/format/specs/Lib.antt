@@ -1,14 +1,10 @@
-pub mod FileRefusals
-pub mod Reader
 pub mod Format
 pub mod ReadAnswers
 pub mod Fields
 pub mod Answered
 pub mod SameBytes
-pub mod Groups
 pub mod Taking
 pub mod Lengths
-pub mod Sums
 pub mod FileSays
 pub mod Spelling
 pub mod TraceFiles

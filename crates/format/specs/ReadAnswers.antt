@@ -4,14 +4,14 @@ use lib.IntN.{pos}
 use Rattle.history.specs.Events.{Event, invoked, returned}
 use Rattle.families.specs.Families.{families}
 use Rattle.families.specs.Objects.{newRegister}
-use Rattle.families.specs.declared.coded.Coded.{Coded}
+use Rattle.values.specs.declared.coded.Coded.{Coded}
 use Rattle.families.specs.declared.event.Event.{Event as CEvent}
 use Rattle.families.specs.declared.event.Event.the-variants.{Invoked, Returned}
 use Rattle.families.specs.declared.Object.{Object}
 use Rattle.families.specs.declared.Op.{Op}
 use Rattle.families.specs.declared.Ret.{Ret}
-use Rattle.format.specs.declared.numbers.NumberRead.{NumberRead}
-use Rattle.format.specs.declared.numbers.NumberRead.the-variants.{Number, Refused as NRefused}
+use Rattle.numbers.specs.declared.NumberRead.{NumberRead}
+use Rattle.numbers.specs.declared.NumberRead.the-variants.{Number, Refused as NRefused}
 use Rattle.format.specs.declared.payload.PayloadRead.{PayloadRead}
 use Rattle.format.specs.declared.payload.PayloadRead.the-variants.{Payload, Refused as PRefused}
 use Rattle.format.specs.declared.operations.OpRead.{OpRead}
@@ -22,11 +22,7 @@ use Rattle.format.specs.declared.events.EventRead.{EventRead}
 use Rattle.format.specs.declared.events.EventRead.the-variants.{Event as EEvent, Refused as ERefused}
 use Rattle.format.specs.declared.header.Begins.the-variants.{At, Refused as BRefused}
 use Rattle.format.specs.declared.header.Header.{Header}
-use Rattle.format.specs.Reader.{Read, got, refused}
-
-abbrev pub asNumber : Read ℕ → NumberRead
-asNumber (got n used) = Number n used
-asNumber (refused why) = NRefused why
+use Rattle.numbers.specs.Reader.{Read, got, refused}
 
 abbrev pub asPayload : Read Coded → PayloadRead
 asPayload (got c used) = Payload c used

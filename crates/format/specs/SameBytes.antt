@@ -7,7 +7,7 @@ use native.Mathlib.Omega.{arith}
 use lib.Dec.{eqb}
 use lib.ListN.{length, take}
 use borrow.Author.Tests.{eqb-true, eq-eqb}
-use Rattle.families.specs.Value.{pick}
+use Rattle.values.specs.Value.{pick}
 use Rattle.format.specs.Format.{opening, sameBytes, opens}
 
 same-refl : (s : List ℕ) → sameBytes s s ≡ true

@@ -8,7 +8,7 @@ use lib.Seq.{drop-drop}
 use Rattle.history.specs.Events.{Event, Events}
 use Rattle.families.specs.Families.{families}
 use Rattle.families.specs.declared.Kind.{Kind}
-use Rattle.format.specs.Reader.{got}
+use Rattle.numbers.specs.Reader.{got}
 use Rattle.format.specs.Format.{event}
 
 -- The bytes begin with these events, one after the other, and they take n bytes.

@@ -6,10 +6,10 @@ use mathlib.Core.List.{List, [], _∷_}
 use native.Mathlib.Omega.{arith}
 use lib.ListN.{length, drop, length-drop}
 use lib.Dec.{ltb}
-use Rattle.families.specs.Value.{pick}
-use Rattle.format.specs.declared.refusal.Refusal.{Refusal}
-use Rattle.format.specs.Reader.{Read, got, refused, Reader, later, from, give, refuse, behind, _then_}
-use Rattle.format.specs.Format.{tooBig, groupBy, numberFrom, number}
+use Rattle.values.specs.Value.{pick}
+use Rattle.numbers.specs.declared.refusal.Refusal.{Refusal}
+use Rattle.numbers.specs.Reader.{Read, got, refused, Reader, later, from, give, refuse, behind, _then_}
+use Rattle.numbers.specs.Number.{tooBig, groupBy, numberFrom, number}
 
 -- between two numbers of bytes, where it is not refused
 abbrev pub Takes : {A : Type 0} → ℕ → ℕ → Read A → Type 0

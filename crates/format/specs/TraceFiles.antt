@@ -6,45 +6,22 @@ use lib.Dec.{lit≤}
 use lib.IntN.{pos, negsuc}
 use lib.ListN.{drop}
 use Rattle.history.specs.Events.{Events, invoked, returned}
-use Rattle.families.specs.Value.{signed}
+use Rattle.values.specs.Value.{signed}
 use Rattle.families.specs.Family.{familyOf}
 use Rattle.families.specs.Families.{families}
-use Rattle.families.specs.Register.{registerOpForm, registerOpFrom, registerRetForm, registerRetFrom}
+use Rattle.objects.specs.Register.{registerOpForm, registerOpFrom, registerRetForm, registerRetFrom}
 use Rattle.families.specs.Codes.{opForm, opFrom, retForm, retFrom, startForm, startFrom}
 use Rattle.families.specs.Objects.{newRegister}
-use Rattle.families.specs.declared.coded.Form.the-variants.{Flagged}
+use Rattle.values.specs.declared.coded.Form.the-variants.{Flagged}
 use Rattle.families.specs.declared.Op.the-variants.{Register as ORegister}
 use Rattle.families.specs.declared.Ret.the-variants.{Register as RRegister}
-use Rattle.families.specs.declared.register.RegisterOp.the-variants.{Write, Read}
-use Rattle.families.specs.declared.register.RegisterRet.the-variants.{WriteOk}
-use Rattle.format.specs.declared.refusal.Refusal.the-variants.{Cut, TooBig, Unknown, StartTooDeep}
-use Rattle.format.specs.FileRefusals.{numberOf}
-use Rattle.format.specs.Reader.{got, refused, from, give, refuse, _then_}
-use Rattle.format.specs.Format.{
-  tooBig,
-  numberFrom,
-  number,
-  value,
-  single,
-  flagged,
-  maybe,
-  payload,
-  singleStart,
-  counted,
-  countedStart,
-  startBy,
-  object,
-  start,
-  sameBytes,
-  opens,
-  header,
-  operationOf,
-  answerOf,
-  operation,
-  answer,
-  eventOf,
-  event,
-}
+use Rattle.objects.specs.declared.register.RegisterOp.the-variants.{Write, Read}
+use Rattle.objects.specs.declared.register.RegisterRet.the-variants.{WriteOk}
+use Rattle.numbers.specs.declared.refusal.Refusal.the-variants.{Cut, TooBig, Unknown, StartTooDeep}
+use Rattle.numbers.specs.FileRefusals.{numberOf}
+use Rattle.numbers.specs.Reader.{got, refused, from, give, refuse, _then_}
+use Rattle.numbers.specs.Number.{tooBig, numberFrom, number}
+use Rattle.format.specs.Format.{value, single, flagged, maybe, payload, singleStart, counted, countedStart, startBy, object, start, sameBytes, opens, header, operationOf, answerOf, operation, answer, eventOf, event}
 use Rattle.format.specs.Spelling.{Spells}
 
 -- 13. -1 is sent as 01, and -2147483648 as FF FF FF FF 0F; a fifth byte of 10 (hex) gives 23, whatever follows.

@@ -1,13 +1,13 @@
 // Reading an event.
-use crate::numbers::NumberRead;
-use crate::numbers::read_number;
 use crate::operations::OpRead;
 use crate::operations::op_at;
-use crate::refusal::Refusal;
 use crate::returns::RetRead;
 use crate::returns::ret_at;
 use families::Kind;
 use families::event::Event;
+use numbers::NumberRead;
+use numbers::read_number;
+use numbers::refusal::Refusal;
 ghost use mathlib.Core.Path.{_≡_};
 ghost use Rattle.format.specs.Format.{event};
 ghost use Rattle.format.specs.ReadAnswers.{asEvent};

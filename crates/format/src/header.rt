@@ -1,25 +1,25 @@
 // The header: the opening, the object and what it starts with.
-use crate::numbers::NumberRead;
-use crate::numbers::number_at;
 use crate::opening::OPENING;
 use crate::opening::is_opened;
 use crate::payload::PayloadRead;
 use crate::payload::payload_at;
-use crate::refusal::Refusal;
+use crate::places::number_at;
 use families::Object;
-use families::coded::Coded;
-use families::coded::Form;
-use families::coded::StartForm;
 use families::codes::start_form;
 use families::codes::start_from;
-use families::sizes::ROOM;
-use families::sizes::START;
-use families::value::signed_of;
+use numbers::NumberRead;
+use numbers::refusal::Refusal;
+use values::coded::Coded;
+use values::coded::Form;
+use values::coded::StartForm;
+use values::sizes::ROOM;
+use values::sizes::START;
+use values::value::signed_of;
 ghost use mathlib.Core.Path.{_≡_};
 ghost use Prim.Native.Nat.{_≤_};
 ghost use lib.ListN.{length};
-ghost use Rattle.families.specs.Sizes.{startRoom};
-ghost use Rattle.format.specs.Reader.{from, refused};
+ghost use Rattle.values.specs.Sizes.{startRoom};
+ghost use Rattle.numbers.specs.Reader.{from, refused};
 ghost use Rattle.format.specs.Format.{singleStart, values, countedStart, startBy, start, header};
 ghost use Rattle.format.specs.ReadAnswers.{asHeader};
 

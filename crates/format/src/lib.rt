@@ -2,9 +2,8 @@
 // is the table of `families::codes`; nothing here names a family.
 pub mod events;
 pub mod header;
-mod numbers;
 mod opening;
 mod operations;
 mod payload;
-pub mod refusal;
+mod places;
 mod returns;

@@ -1,17 +1,17 @@
 // Operations: a number inside the family, and what follows it by the family's table.
-use crate::numbers::NumberRead;
-use crate::numbers::number_at;
 use crate::payload::PayloadRead;
 use crate::payload::payload_at;
-use crate::refusal::Refusal;
+use crate::places::number_at;
 use families::Kind;
 use families::Op;
 use families::codes::op_form;
 use families::codes::op_from;
+use numbers::NumberRead;
+use numbers::refusal::Refusal;
 ghost use mathlib.Core.Path.{_≡_};
 ghost use Prim.Native.Nat.{_≤_};
 ghost use lib.ListN.{length};
-ghost use Rattle.format.specs.Reader.{from};
+ghost use Rattle.numbers.specs.Reader.{from};
 ghost use Rattle.format.specs.Format.{operation};
 ghost use Rattle.format.specs.ReadAnswers.{asOp};
 

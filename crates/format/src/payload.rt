@@ -1,14 +1,14 @@
 // What follows the number of an operation, a return or an object, by its form: nothing, a number, or a flag and, where it
 // is 1, a number.
-use crate::numbers::NumberRead;
-use crate::numbers::number_at;
-use crate::refusal::Refusal;
-use families::coded::Coded;
-use families::coded::Form;
+use crate::places::number_at;
+use numbers::NumberRead;
+use numbers::refusal::Refusal;
+use values::coded::Coded;
+use values::coded::Form;
 ghost use mathlib.Core.Path.{_≡_};
 ghost use Prim.Native.Nat.{_≤_};
 ghost use lib.ListN.{length};
-ghost use Rattle.format.specs.Reader.{from};
+ghost use Rattle.numbers.specs.Reader.{from};
 ghost use Rattle.format.specs.Format.{single, maybe, payload};
 ghost use Rattle.format.specs.ReadAnswers.{asPayload};
 

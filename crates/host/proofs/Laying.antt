@@ -7,7 +7,7 @@ use native.Mathlib.Omega.{arith}
 use lib.ListN.{length, take, drop}
 use lib.Pow.{shr-shr}
 use lib.Seq.{paste, take-all, take-at, drop-append-add, drop-drop}
-use Rattle.families.specs.Sizes.{capacity}
+use Rattle.values.specs.Sizes.{capacity}
 use Rattle.host.specs.declared.report.Report.{Report}
 use Rattle.host.specs.Call.{little, headOf, headSize, bytesOf, answerSize}
 

@@ -6,7 +6,7 @@ use native.Mathlib.Numerals.{add-one}
 use native.Mathlib.Omega.{arith}
 use lib.ListN.{length, take, set, getD, length-map, length-set, List·getD-map}
 use lib.Seq.{take-all, take-suc, take-suc-set}
-use Rattle.families.specs.Sizes.{capacity}
+use Rattle.values.specs.Sizes.{capacity}
 use Rattle.judging.specs.declared.answer.Placed.{Placed}
 use Rattle.host.specs.Call.{threadsOf}
 

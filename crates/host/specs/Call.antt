@@ -3,8 +3,8 @@ use Prim.Native.Nat.{ℕ, zero, suc, _+_, _/_, _%_}
 use mathlib.Core.List.{List, [], _∷_, _++_, map}
 use lib.Dec.{ltb, eqb}
 use lib.ListN.{length, drop, replicate}
-use Rattle.families.specs.Sizes.{capacity}
-use Rattle.families.specs.Value.{pick}
+use Rattle.values.specs.Sizes.{capacity}
+use Rattle.values.specs.Value.{pick}
 use Rattle.recording_meaning.specs.Models.{Model, sequentialModel, linearizabilityModel}
 use Rattle.judging.specs.declared.answer.Answer.{Answer}
 use Rattle.judging.specs.declared.answer.Placed.{Placed}

@@ -10,10 +10,10 @@ use Rattle.history.specs.Lists.{not-both}
 use Rattle.history.specs.Events.{Events}
 use Rattle.families.specs.Families.{families}
 use Rattle.families.specs.declared.Object.{Object}
-use Rattle.recording.specs.declared.consistency_tester.Recorded.{Recorded}
-use Rattle.recording.specs.declared.consistency_tester.Recorded.the-variants.{Taken, Refused}
-use Rattle.recording.specs.Drawn.{zero-taken, breaks-number}
-use Rattle.recording.specs.EventSteps.{numberOf as recordedNumber}
+use Rattle.stepping.specs.declared.recorded.Recorded.{Recorded}
+use Rattle.stepping.specs.declared.recorded.Recorded.the-variants.{Taken, Refused}
+use Rattle.stepping.specs.Drawn.{zero-taken, breaks-number}
+use Rattle.stepping.specs.EventSteps.{numberOf as recordedNumber}
 use Rattle.recording_meaning.specs.Models.{Model}
 use Rattle.recording_meaning.specs.Lawful.{Lawful}
 use Rattle.recording_meaning.specs.EventTurns.{good-shaped}
@@ -22,10 +22,10 @@ use Rattle.recording_meaning.specs.Inputs.{broke, broken, give, feed, drawn}
 use Rattle.recording_meaning.specs.TesterFeeding.{step-of, good-feed, invalid-exactly}
 use Rattle.judging.specs.declared.answer.Verdict.the-variants.{Invalid}
 use Rattle.judging.specs.Answers.{judgeOf}
-use Rattle.format.specs.declared.refusal.Refusal.{Refusal}
-use Rattle.format.specs.declared.refusal.Refusal.the-variants.{TooLong, Unopened, Cut, TooBig, Unknown, StartTooDeep}
-use Rattle.format.specs.FileRefusals.{numberOf}
-use Rattle.format.specs.Reader.{Read, got, refused}
+use Rattle.numbers.specs.declared.refusal.Refusal.{Refusal}
+use Rattle.numbers.specs.declared.refusal.Refusal.the-variants.{TooLong, Unopened, Cut, TooBig, Unknown, StartTooDeep}
+use Rattle.numbers.specs.FileRefusals.{numberOf}
+use Rattle.numbers.specs.Reader.{Read, got, refused}
 use Rattle.format.specs.Format.{header}
 use Rattle.corpus.specs.Load.{Load, loadOf}
 use Rattle.corpus.specs.Loaded.{AllRecorded, Outcome, ended, unread, unrecorded, loaded, not-loaded}

@@ -10,8 +10,8 @@ use lib.ListN.{length, drop, replicate, length-append}
 use Rattle.history.specs.Lists.{not-both}
 use Rattle.theory.specs.Budget.{Verdict as Found, order, no-order, undecided, Judged}
 use Rattle.theory.specs.Undoing.{shown-by}
-use Rattle.families.specs.Sizes.{capacity}
-use Rattle.families.specs.Value.{pick}
+use Rattle.values.specs.Sizes.{capacity}
+use Rattle.values.specs.Value.{pick}
 use Rattle.recording_meaning.specs.Models.{Model}
 use Rattle.judging.specs.declared.answer.Answer.{Answer}
 use Rattle.judging.specs.declared.answer.Placed.{Placed}

@@ -4,42 +4,21 @@ use mathlib.Core.Path.{_≡_, refl, ap, _∙_}
 use mathlib.Core.List.{List, [], _∷_, _++_}
 use borrow.Author.Tests.{le-leb}
 use lib.ListN.{length, drop, replicate}
-use Rattle.families.specs.Value.{zigzag, eqZ}
-use Rattle.families.specs.Register.{registerAnswer, registerAfter, registerRetCoded}
+use Rattle.values.specs.Value.{zigzag, eqZ}
+use Rattle.objects.specs.Register.{registerAnswer, registerAfter, registerRetCoded}
 use Rattle.families.specs.Families.{answers, right, after, sameRet}
 use Rattle.families.specs.Codes.{retCoded}
-use Rattle.families.specs.Coded.{sameCoded}
+use Rattle.values.specs.Coded.{sameCoded}
 use Rattle.families.specs.Family.{familyOf, opFamily, retFamily, familyNumber}
-use Rattle.families.specs.Refusals.{familyCheck, opBelongs, retBelongs, isClear, startCheck, shapeCheck, sizeCheck, inOrder}
+use Rattle.families.specs.Refusals.{familyCheck, opBelongs, retBelongs, startCheck, shapeCheck, sizeCheck}
+use Rattle.values.specs.Checks.{isClear, inOrder}
 use Rattle.families.specs.Objects.{newRegister}
 use Rattle.families.specs.States.{stateOf}
-use Rattle.recording.specs.Record.{fresh, isPending, flyingBy, flyingFrom, findFlying}
-use Rattle.recording.specs.Shape.{
-  doneBy,
-  countDone,
-  notable,
-  allBelow,
-  outcomeFits,
-  operationFits,
-  operationsFit,
-  noneOf,
-  flyingLast,
-  countsRight,
-  shapeOf,
-  notesFit,
-  notesFitFrom,
-  notesShaped,
-}
-use Rattle.recording.specs.EventSteps.{isTaken, begunOf, invokeOf, returnOf}
-use Rattle.recording.specs.Testers.{
-  newSequential,
-  sequentialInvoke,
-  sequentialReturn,
-  newLinearizability,
-  notesWith,
-  linearizabilityInvoke,
-  linearizabilityReturn,
-}
+use Rattle.stepping.specs.Record.{fresh, isPending, flyingBy, flyingFrom, findFlying}
+use Rattle.stepping.specs.Shape.{doneBy, countDone, notable, allBelow, outcomeFits, operationFits, operationsFit, noneOf, flyingLast, countsRight, shapeOf, notesFit, notesFitFrom}
+use Rattle.recording.specs.Testers.{notesShaped}
+use Rattle.stepping.specs.EventSteps.{isTaken, begunOf, invokeOf, returnOf}
+use Rattle.recording.specs.Testers.{newSequential, sequentialInvoke, sequentialReturn, newLinearizability, notesWith, linearizabilityInvoke, linearizabilityReturn}
 use Rattle.recording_meaning.specs.Reading.{rowsOf, notesOf}
 use Rattle.recording_meaning.specs.Models.{sequentialModel, linearizabilityModel}
 use Rattle.judging.specs.Answers.{numberOf, toldOf, judgedOf, judgeOf}

@@ -1,6 +1,6 @@
 // The bytes of an answer.
 use crate::report::Report;
-use families::sizes::OPERATIONS;
+use values::sizes::OPERATIONS;
 ghost use mathlib.Core.Path.{_≡_};
 ghost use mathlib.Core.List.{_++_};
 ghost use Prim.Native.Nat.{_≤_, _+_, _*_, _/_, _%_, _^_};

@@ -1,11 +1,11 @@
 // What an answer reports of a file.
 use corpus::linearizability;
 use corpus::sequential_consistency;
-use families::sizes::OPERATIONS;
 use judging::answer;
 use judging::answer::Answer;
 use judging::answer::NOBODY;
 use judging::answer::Placed;
+use values::sizes::OPERATIONS;
 ghost use mathlib.Core.Path.{_≡_};
 ghost use Prim.Native.Nat.{_≤_};
 ghost use lib.ListN.{length};

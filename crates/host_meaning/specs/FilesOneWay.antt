@@ -11,16 +11,16 @@ use lib.ListN.{length, drop}
 use lib.Seq.{drop-append-le}
 use Rattle.history.specs.Events.{Events}
 use Rattle.families.specs.Families.{families}
-use Rattle.families.specs.Value.{pick}
+use Rattle.values.specs.Value.{pick}
 use Rattle.families.specs.declared.Object.{Object}
-use Rattle.recording.specs.EventSteps.{numberOf as recordedNumber}
+use Rattle.stepping.specs.EventSteps.{numberOf as recordedNumber}
 use Rattle.recording_meaning.specs.Models.{Model, sequentialModel, linearizabilityModel}
 use Rattle.recording_meaning.specs.Inputs.{give, feed, drawn}
 use Rattle.recording_meaning.specs.TestersAlike.{testers-alike}
 use Rattle.judging.specs.declared.answer.Verdict.{Verdict}
 use Rattle.judging.specs.declared.answer.Verdict.the-variants.{Order, NoOrder, Undecided, Invalid}
 use Rattle.judging_meaning.specs.VerdictsOneWay.{verdict-fed, larger-budget, refused-stays-refused, linearizable-then-sequential}
-use Rattle.format.specs.Reader.{Read, got, refused}
+use Rattle.numbers.specs.Reader.{Read, got, refused}
 use Rattle.format.specs.Format.{header}
 use Rattle.format.specs.Spelling.{Spells, spells-more}
 use Rattle.corpus.specs.Load.{Load, loadOf}

@@ -10,12 +10,13 @@ use lib.ListN.{length, drop, length-append, length-drop}
 use lib.Seq.{take-append-le, drop-append-le}
 use Rattle.history.specs.Events.{Event, Events}
 use Rattle.families.specs.Families.{families}
-use Rattle.families.specs.Value.{pick}
+use Rattle.values.specs.Value.{pick}
 use Rattle.families.specs.declared.Kind.{Kind}
 use Rattle.families.specs.declared.Object.{Object}
-use Rattle.format.specs.declared.refusal.Refusal.the-variants.{Unopened}
-use Rattle.format.specs.Reader.{Read, got, refused, Reader, later, from, give, refuse, behind, _then_}
-use Rattle.format.specs.Format.{tooBig, groupBy, numberFrom, number, start, opening, opens, longest, header, event}
+use Rattle.numbers.specs.declared.refusal.Refusal.the-variants.{Unopened}
+use Rattle.numbers.specs.Reader.{Read, got, refused, Reader, later, from, give, refuse, behind, _then_}
+use Rattle.numbers.specs.Number.{tooBig, groupBy, numberFrom, number}
+use Rattle.format.specs.Format.{start, opening, opens, longest, header, event}
 use Rattle.format.specs.Taking.{Field, BuiltOf, one-number, no-bytes, never, either, next-to, fewer, built-field, first-in}
 use Rattle.format.specs.Lengths.{event-built, event-field, start-built, opened-long}
 use Rattle.format.specs.Spelling.{Spells}

@@ -5,11 +5,11 @@ use mathlib.Core.List.{List, [], _∷_}
 use Rattle.history.specs.Events.{Events}
 use Rattle.families.specs.Families.{families}
 use Rattle.semantics.specs.Invoking.{holds}
-use Rattle.recording.specs.declared.consistency_tester.History.{History}
-use Rattle.recording.specs.Record.{fresh}
+use Rattle.stepping.specs.declared.history.History.{History}
+use Rattle.stepping.specs.Record.{fresh}
 use Rattle.format.specs.FileSays.{header-clear}
-use Rattle.recording.specs.EventSteps.{isTaken}
-use Rattle.recording.specs.Drawn.{zero-taken}
+use Rattle.stepping.specs.EventSteps.{isTaken}
+use Rattle.stepping.specs.Drawn.{zero-taken}
 use Rattle.recording_meaning.specs.Models.{Model}
 use Rattle.recording_meaning.specs.Lawful.{Lawful}
 use Rattle.recording_meaning.specs.Beginning.{begun-clear}

@@ -7,9 +7,9 @@ use lib.ListN.{length, take, replicate, length-append, length-replicate}
 use native.Mathlib.Omega.{arith}
 use Rattle.theory.specs.Budget.{order, Judged}
 use Rattle.history.specs.Lists.{not-both}
-use Rattle.families.specs.Value.{pick}
-use Rattle.families.specs.Sizes.{capacity}
-use Rattle.recording.specs.declared.consistency_tester.History.{History}
+use Rattle.values.specs.Value.{pick}
+use Rattle.values.specs.Sizes.{capacity}
+use Rattle.stepping.specs.declared.history.History.{History}
 use Rattle.recording_meaning.specs.Models.{Model}
 use Rattle.judging.specs.declared.answer.Answer.{Answer}
 use Rattle.judging.specs.declared.answer.Placed.{Placed}

@@ -8,10 +8,10 @@ use lib.Seq.{drop-cons, getD-set-same, getD-set-other, getD-at}
 use native.Mathlib.Numerals.{add-one}
 use native.Mathlib.Omega.{arith}
 use Rattle.history.specs.Lists.{own-or-other, getD-same}
-use Rattle.families.specs.Sizes.{threads, capacity}
-use Rattle.recording.specs.declared.consistency_tester.History.{History}
-use Rattle.recording.specs.Record.{operationAt}
-use Rattle.recording.specs.Shape.{InShape}
+use Rattle.values.specs.Sizes.{threads, capacity}
+use Rattle.stepping.specs.declared.history.History.{History}
+use Rattle.stepping.specs.Record.{operationAt}
+use Rattle.stepping.specs.Shape.{InShape}
 use Rattle.judging.specs.Places.{placesIn, StartedTo, SlottedTo, Indexed, sumOf}
 use Rattle.judging.specs.PlacesLaws.{grown-own, grown-other, places-few}
 

@@ -8,8 +8,8 @@ use native.Mathlib.Omega.{arith}
 use Rattle.history.specs.Space.{met}
 use Rattle.history.specs.Lists.{not-true}
 use Rattle.history.specs.Progress.{met-of, of-met}
-use Rattle.families.specs.Sizes.{threads}
-use Rattle.recording.specs.Shape.{noteAt}
+use Rattle.values.specs.Sizes.{threads}
+use Rattle.stepping.specs.Shape.{noteAt}
 use Rattle.recording_meaning.specs.Reading.{notesOf}
 use Rattle.recording_meaning.specs.Noting.{note-in}
 

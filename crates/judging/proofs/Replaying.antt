@@ -7,14 +7,14 @@ use lib.Seq.{take-suc, take-take, getD-take, length-take-le, append-snoc, set-at
 use lib.IntN.{ℤ}
 use native.Mathlib.Numerals.{add-one}
 use native.Mathlib.Omega.{arith}
-use Rattle.families.specs.Sizes.{threads, capacity}
+use Rattle.values.specs.Sizes.{threads, capacity}
 use Rattle.families.specs.Placing.{heldOf, givenOf, leavesOf, actedOf}
 use Rattle.families.specs.declared.Ret.{Ret}
-use Rattle.families.specs.declared.placing.Held.{Held}
-use Rattle.families.specs.declared.placing.Acted.{Acted}
-use Rattle.recording.specs.declared.consistency_tester.Operation.{Operation}
-use Rattle.recording.specs.declared.consistency_tester.History.{History}
-use Rattle.recording.specs.Record.{operationAt}
+use Rattle.values.specs.declared.held.Held.{Held}
+use Rattle.values.specs.declared.held.Acted.{Acted}
+use Rattle.stepping.specs.declared.history.Operation.{Operation}
+use Rattle.stepping.specs.declared.history.History.{History}
+use Rattle.stepping.specs.Record.{operationAt}
 use Rattle.judging.specs.declared.answer.Placed.{Placed}
 use Rattle.judging.specs.Answers.{placed, nobodyThere}
 use Rattle.judging.specs.Places.{placesOf, Slotted}

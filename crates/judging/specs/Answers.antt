@@ -8,13 +8,13 @@ use Rattle.theory.specs.Space.{Edge}
 use Rattle.theory.specs.Undoing.{shown-by}
 use Rattle.history.specs.Space.{Node}
 use Rattle.history.specs.Budgets.{judged}
-use Rattle.families.specs.Sizes.{capacity}
-use Rattle.families.specs.Value.{pick}
+use Rattle.values.specs.Sizes.{capacity}
+use Rattle.values.specs.Value.{pick}
 use Rattle.families.specs.Families.{families}
 use Rattle.families.specs.States.{stateOf}
 use Rattle.families.specs.Objects.{noRet}
 use Rattle.families.specs.declared.Ret.{Ret}
-use Rattle.recording.specs.declared.consistency_tester.History.{History}
+use Rattle.stepping.specs.declared.history.History.{History}
 use Rattle.recording_meaning.specs.Reading.{rowsOf}
 use Rattle.recording_meaning.specs.Models.{Model}
 use Rattle.judging.specs.declared.answer.Answer.{Answer}

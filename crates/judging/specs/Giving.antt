@@ -11,7 +11,7 @@ use Rattle.families.specs.Families.{families, State, answers, right}
 use Rattle.families.specs.Placing.{answerOf, rightOf, fitsOf, givenOf}
 use Rattle.families.specs.declared.Op.{Op}
 use Rattle.families.specs.declared.Ret.{Ret}
-use Rattle.families.specs.declared.placing.Held.{Held}
+use Rattle.values.specs.declared.held.Held.{Held}
 use Rattle.families.specs.declared.placing.Outcome.{Outcome}
 use Rattle.families.specs.declared.placing.Outcome.the-variants.{Pending, Returned}
 use Rattle.recording_meaning.specs.Reading.{returnIn}

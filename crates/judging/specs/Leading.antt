@@ -6,7 +6,7 @@ use lib.ListN.{length, getD, take}
 use lib.Seq.{take-suc}
 use native.Mathlib.Omega.{arith}
 use Rattle.theory.specs.Undoing.{Fine, fine-fits, fine-parts, shown-above}
-use Rattle.recording.specs.declared.consistency_tester.History.{History}
+use Rattle.stepping.specs.declared.history.History.{History}
 use Rattle.judging.specs.declared.answer.Placed.{Placed}
 use Rattle.judging.specs.declared.search.Level.{Level}
 use Rattle.judging.specs.Answers.{placed}

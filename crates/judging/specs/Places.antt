@@ -4,10 +4,10 @@ use mathlib.Core.Path.{_≡_}
 use mathlib.Core.List.{List, [], _∷_, _++_}
 use lib.ListN.{length, getD}
 use lib.Dec.{eqb}
-use Rattle.families.specs.Value.{pick}
-use Rattle.families.specs.Sizes.{threads, capacity}
-use Rattle.recording.specs.declared.consistency_tester.History.{History}
-use Rattle.recording.specs.Record.{operationAt}
+use Rattle.values.specs.Value.{pick}
+use Rattle.values.specs.Sizes.{threads, capacity}
+use Rattle.stepping.specs.declared.history.History.{History}
+use Rattle.stepping.specs.Record.{operationAt}
 
 module _ (h : History) where
   -- The places of thread t's operations among the first n, in their order.

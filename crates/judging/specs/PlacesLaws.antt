@@ -9,9 +9,9 @@ use lib.Seq.{getD-at}
 use lib.Dec.{ltb, eqb}
 use borrow.Author.Tests.{ltb-true, ltb-false, eq-eqb, ne-eqb}
 use native.Mathlib.Omega.{arith}
-use Rattle.families.specs.Value.{pick}
-use Rattle.recording.specs.declared.consistency_tester.History.{History}
-use Rattle.recording.specs.Record.{operationAt}
+use Rattle.values.specs.Value.{pick}
+use Rattle.stepping.specs.declared.history.History.{History}
+use Rattle.stepping.specs.Record.{operationAt}
 use Rattle.judging.specs.Places.{placesIn}
 
 module _ (h : History) (t : ℕ) where

@@ -3,12 +3,12 @@ use Prim.Native.Nat.{ℕ, _+_, _<_}
 use mathlib.Core.List.{List, [], _∷_}
 use lib.ListN.{length, getD, set, replicate}
 use lib.IntN.{ℤ}
-use Rattle.families.specs.Sizes.{threads}
+use Rattle.values.specs.Sizes.{threads}
 use Rattle.families.specs.Placing.{heldOf, givenOf, heldAfter, leavesOf}
-use Rattle.families.specs.declared.placing.Held.{Held}
-use Rattle.recording.specs.declared.consistency_tester.Operation.{Operation}
-use Rattle.recording.specs.declared.consistency_tester.History.{History}
-use Rattle.recording.specs.Record.{operationAt}
+use Rattle.values.specs.declared.held.Held.{Held}
+use Rattle.stepping.specs.declared.history.Operation.{Operation}
+use Rattle.stepping.specs.declared.history.History.{History}
+use Rattle.stepping.specs.Record.{operationAt}
 use Rattle.judging.specs.declared.answer.Placed.{Placed}
 use Rattle.judging.specs.Answers.{placed}
 use Rattle.judging.specs.Places.{placesOf}

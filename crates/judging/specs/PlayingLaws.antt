@@ -4,8 +4,8 @@ use mathlib.Core.Path.{_≡_, refl, ap}
 use mathlib.Core.List.{List, [], _∷_, _++_}
 use lib.ListN.{length, getD, take}
 use native.Mathlib.Omega.{arith}
-use Rattle.families.specs.Sizes.{threads}
-use Rattle.recording.specs.declared.consistency_tester.History.{History}
+use Rattle.values.specs.Sizes.{threads}
+use Rattle.stepping.specs.declared.history.History.{History}
 use Rattle.judging.specs.declared.answer.Placed.{Placed}
 use Rattle.judging.specs.Places.{placesOf}
 use Rattle.judging.specs.Playing.{Situation, onward, givenTo, played, reached, Playable}

@@ -15,13 +15,13 @@ use Rattle.history.specs.Recorder.{completed}
 use Rattle.history.specs.Space.{next, more, unplaced}
 use Rattle.history.specs.Left.{left}
 use Rattle.history.specs.Progress.{next-row}
-use Rattle.families.specs.Value.{pick}
-use Rattle.families.specs.Sizes.{threads, capacity}
+use Rattle.values.specs.Value.{pick}
+use Rattle.values.specs.Sizes.{threads, capacity}
 use Rattle.families.specs.Families.{families}
-use Rattle.recording.specs.declared.consistency_tester.Operation.{Operation}
-use Rattle.recording.specs.declared.consistency_tester.History.{History}
-use Rattle.recording.specs.Record.{blankOperation, operationAt}
-use Rattle.recording.specs.Shape.{shapeOf}
+use Rattle.stepping.specs.declared.history.Operation.{Operation}
+use Rattle.stepping.specs.declared.history.History.{History}
+use Rattle.stepping.specs.Record.{blankOperation, operationAt}
+use Rattle.stepping.specs.Shape.{shapeOf}
 use Rattle.recording_meaning.specs.Reading.{Sized, entryOf, entries, of-thread, rowsOf}
 use Rattle.recording_meaning.specs.Rowing.{rows-many, row-is}
 use Rattle.recording_meaning.specs.Shaping.{rows-done, rows-count}

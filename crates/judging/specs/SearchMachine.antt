@@ -13,17 +13,18 @@ use Rattle.history.specs.Space.{Node, next, met, gives, placing, space, size}
 use Rattle.history.specs.Moves.{falls}
 use Rattle.history.specs.Left.{spent, left}
 use Rattle.history.specs.Space.{unplaced}
-use Rattle.families.specs.Sizes.{threads, capacity, room}
+use Rattle.values.specs.Sizes.{threads, capacity, room}
 use Rattle.families.specs.Families.{families, State, answers, right}
-use Rattle.families.specs.Placing.{held, kindOf, answerOf, rightOf, fitsOf, givenOf, backOf}
+use Rattle.values.specs.Held.{held}
+use Rattle.families.specs.Placing.{kindOf, answerOf, rightOf, fitsOf, givenOf, backOf}
 use Rattle.families.specs.Refusals.{opBelongs}
 use Rattle.families.specs.Room.{Room, room-fits}
 use Rattle.families.specs.States.{stateOf, placing-answers, placing-right, placing-leaves}
-use Rattle.families.specs.declared.refusal.Check.the-variants.{Clear}
+use Rattle.values.specs.declared.refusal.Check.the-variants.{Clear}
 use Rattle.families.specs.declared.Ret.{Ret}
-use Rattle.recording.specs.declared.consistency_tester.History.{History}
-use Rattle.recording.specs.Record.{operationAt}
-use Rattle.recording.specs.Shape.{shapeOf}
+use Rattle.stepping.specs.declared.history.History.{History}
+use Rattle.stepping.specs.Record.{operationAt}
+use Rattle.stepping.specs.Shape.{shapeOf}
 use Rattle.recording_meaning.specs.Reading.{Sized, returnIn, rowsOf}
 use Rattle.recording_meaning.specs.ShapeExactly.{shape-exactly}
 use Rattle.judging.specs.declared.search.Level.{Level}

@@ -20,14 +20,14 @@ use Rattle.theory.specs.Going.{Going, going-root, going-fits, going-skip, going
 use Rattle.history.specs.Space.{Node, next as next-of, met, all-placed, root}
 use Rattle.history.specs.Moves.{falls}
 use Rattle.history.specs.Left.{left, placed-none, placed-some}
-use Rattle.families.specs.Sizes.{threads, capacity, room}
+use Rattle.values.specs.Sizes.{threads, capacity, room}
 use Rattle.families.specs.Families.{families}
 use Rattle.families.specs.Placing.{heldOf, fitsOf}
 use Rattle.families.specs.States.{stateOf, kind-held}
-use Rattle.families.specs.declared.placing.Held.{Held}
-use Rattle.recording.specs.declared.consistency_tester.History.{History}
-use Rattle.recording.specs.Record.{operationAt}
-use Rattle.recording.specs.Shape.{shapeOf}
+use Rattle.values.specs.declared.held.Held.{Held}
+use Rattle.stepping.specs.declared.history.History.{History}
+use Rattle.stepping.specs.Record.{operationAt}
+use Rattle.stepping.specs.Shape.{shapeOf}
 use Rattle.recording_meaning.specs.Reading.{Sized, rowsOf}
 use Rattle.recording_meaning.specs.Rowing.{rows-many}
 use Rattle.recording_meaning.specs.Parts.{parts-of}

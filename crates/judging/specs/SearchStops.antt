@@ -5,8 +5,8 @@ use mathlib.Core.List.{List}
 use lib.ListN.{take}
 use Rattle.theory.specs.Budget.{order, no-order, undecided, Judged}
 use Rattle.theory.specs.Undoing.{shown-by}
-use Rattle.families.specs.Sizes.{capacity}
-use Rattle.recording.specs.declared.consistency_tester.History.{History}
+use Rattle.values.specs.Sizes.{capacity}
+use Rattle.stepping.specs.declared.history.History.{History}
 use Rattle.judging.specs.declared.answer.Verdict.{Verdict}
 use Rattle.judging.specs.declared.answer.Verdict.the-variants.{Order, NoOrder, Undecided, Invalid}
 use Rattle.judging.specs.declared.search.Stopped.{Stopped}

@@ -15,14 +15,14 @@ use Rattle.theory.specs.Going.{going-can, going-place, going-back}
 use Rattle.history.specs.Space.{unplaced, met}
 use Rattle.history.specs.Moves.{falls}
 use Rattle.history.specs.Left.{one-of, spent, left, left-more}
-use Rattle.families.specs.Sizes.{threads, capacity}
+use Rattle.values.specs.Sizes.{threads, capacity}
 use Rattle.families.specs.Families.{families}
 use Rattle.families.specs.Placing.{fitsOf, heldAfter, leavesOf, actedOf, backOf}
 use Rattle.families.specs.PlacingUndone.{back-acted, leaves-length}
-use Rattle.families.specs.declared.placing.Held.{Held}
-use Rattle.families.specs.declared.placing.Acted.{Acted}
-use Rattle.recording.specs.declared.consistency_tester.History.{History}
-use Rattle.recording.specs.Record.{operationAt}
+use Rattle.values.specs.declared.held.Held.{Held}
+use Rattle.values.specs.declared.held.Acted.{Acted}
+use Rattle.stepping.specs.declared.history.History.{History}
+use Rattle.stepping.specs.Record.{operationAt}
 use Rattle.recording_meaning.specs.Reading.{returnIn, rowsOf}
 use Rattle.recording_meaning.specs.Rowing.{rows-many}
 use Rattle.families.specs.Room.{Room, room-fewer, step-room}

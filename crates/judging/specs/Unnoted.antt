@@ -17,12 +17,12 @@ use Rattle.history.specs.Lists.{getD-same}
 use Rattle.history.specs.Space.{Node, next, unplaced, met, only-pending, all-placed, gives, placing, trying, space, size, root}
 use Rattle.history.specs.Progress.{met-of}
 use Rattle.history.specs.Budgets.{judged}
-use Rattle.families.specs.Sizes.{threads}
+use Rattle.values.specs.Sizes.{threads}
 use Rattle.families.specs.Families.{families}
 use Rattle.families.specs.States.{stateOf}
-use Rattle.recording.specs.declared.consistency_tester.Operation.{Operation}
-use Rattle.recording.specs.declared.consistency_tester.History.{History}
-use Rattle.recording.specs.Record.{held}
+use Rattle.stepping.specs.declared.history.Operation.{Operation}
+use Rattle.stepping.specs.declared.history.History.{History}
+use Rattle.stepping.specs.Record.{held}
 use Rattle.recording_meaning.specs.Reading.{entryOf, entries, of-thread, by-thread, rowsOf, notesOf, noNotes}
 use Rattle.judging.specs.Answers.{judgedOf}
 

@@ -1,7 +1,7 @@
 // What a judge answers.
 use families::Ret;
 use families::no_ret;
-use families::sizes::OPERATIONS;
+use values::sizes::OPERATIONS;
 ghost use mathlib.Core.Path.{_≡_};
 ghost use Rattle.judging.specs.Answers.{numberOf, isConsistent, nobodyThere, withoutOrder};
 

@@ -1,14 +1,14 @@
 // The operations of each thread, in its own order.
 use families::placing::Outcome;
-use families::sizes::OPERATIONS;
-use families::sizes::THREADS;
-use recording::consistency_tester::History;
+use stepping::history::History;
+use values::sizes::OPERATIONS;
+use values::sizes::THREADS;
 ghost use mathlib.Core.Path.{_≡_};
 ghost use mathlib.Core.Bool.{true};
 ghost use Prim.Native.Nat.{_≤_};
 ghost use Rattle.history.specs.Left.{one-of};
 ghost use Rattle.families.specs.Families.{families};
-ghost use Rattle.recording.specs.Shape.{shapeOf};
+ghost use Rattle.stepping.specs.Shape.{shapeOf};
 ghost use Rattle.recording_meaning.specs.Reading.{returnIn};
 ghost use Rattle.judging.specs.Places.{Indexed, sumOf};
 

@@ -5,7 +5,7 @@ use mathlib.Core.List.{[], _∷_, _++_}
 use Rattle.history.specs.Lists.{not-both}
 use Rattle.history.specs.Events.{Events}
 use Rattle.families.specs.Families.{families}
-use Rattle.recording.specs.EventSteps.{isTaken}
+use Rattle.stepping.specs.EventSteps.{isTaken}
 use Rattle.recording_meaning.specs.Models.{Model}
 use Rattle.recording_meaning.specs.Inputs.{broke, broken, give, feed, drawn, taken}
 

@@ -18,8 +18,8 @@ use Rattle.history.specs.Rows.{Rows}
 use Rattle.history.specs.Orders.{Order as Places, First}
 use Rattle.history.specs.Ways.{Steps, searched, strip}
 use Rattle.history.specs.Verdict.{Answers, verdict}
-use Rattle.families.specs.Sizes.{capacity}
-use Rattle.families.specs.Value.{pick}
+use Rattle.values.specs.Sizes.{capacity}
+use Rattle.values.specs.Value.{pick}
 use Rattle.families.specs.Families.{families}
 use Rattle.families.specs.Same.{lawful}
 use Rattle.recording_meaning.specs.Models.{Model, rows-of, sequentialModel, linearizabilityModel}

@@ -11,7 +11,7 @@ use Rattle.history.specs.Rows.{Rows}
 use Rattle.history.specs.Recorder.{Fed}
 use Rattle.history.specs.Orders.{Order as Places, LegalOrder}
 use Rattle.history.specs.Theorem.{linearizable, sequentially-consistent}
-use Rattle.families.specs.Sizes.{threads}
+use Rattle.values.specs.Sizes.{threads}
 use Rattle.families.specs.Families.{State, families}
 use Rattle.families.specs.Same.{lawful}
 use Rattle.semantics.specs.Invoking.{holds}

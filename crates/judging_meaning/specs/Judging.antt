@@ -9,7 +9,7 @@ use Rattle.theory.specs.Tree.{count}
 use Rattle.history.specs.Events.{Events}
 use Rattle.history.specs.Orders.{Item, Order as Places, LegalOrder, First}
 use Rattle.history.specs.Ways.{searched}
-use Rattle.families.specs.Sizes.{capacity}
+use Rattle.values.specs.Sizes.{capacity}
 use Rattle.families.specs.Families.{State, families}
 use Rattle.semantics.specs.Invoking.{holds}
 use Rattle.families.specs.declared.Object.{Object}

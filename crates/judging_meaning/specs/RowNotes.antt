@@ -12,14 +12,14 @@ use native.Mathlib.Omega.{arith}
 use Rattle.history.specs.Rows.{Entry, row, Is}
 use Rattle.history.specs.Recorder.{completed}
 use Rattle.history.specs.Lists.{not-some, getD-below}
-use Rattle.families.specs.Sizes.{threads}
+use Rattle.values.specs.Sizes.{threads}
 use Rattle.families.specs.Families.{families}
-use Rattle.recording.specs.declared.consistency_tester.Operation.{Operation}
-use Rattle.recording.specs.declared.consistency_tester.History.{History}
+use Rattle.stepping.specs.declared.history.Operation.{Operation}
+use Rattle.stepping.specs.declared.history.History.{History}
 use Rattle.recording.specs.declared.linearizability.LinearizabilityTester.{LinearizabilityTester}
 use Rattle.recording.specs.declared.sequential_consistency.SequentialConsistencyTester.{SequentialConsistencyTester}
-use Rattle.recording.specs.Record.{blankOperation, held, operationAt}
-use Rattle.recording.specs.Shape.{InShape, NotesInShape, noteAt}
+use Rattle.stepping.specs.Record.{blankOperation, held, operationAt}
+use Rattle.stepping.specs.Shape.{InShape, NotesInShape, noteAt}
 use Rattle.recording_meaning.specs.Reading.{entryOf, entries, of-thread, rowsOf, notesOf}
 use Rattle.recording_meaning.specs.Models.{rows-of, sequentialModel, linearizabilityModel}
 use Rattle.recording_meaning.specs.Rowing.{rows-many, row-is}

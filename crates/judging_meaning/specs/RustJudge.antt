@@ -8,7 +8,7 @@ use Rattle.theory.specs.Budget.{Verdict as Found, order, no-order, undecided, J
 use Rattle.history.specs.Events.{Events}
 use Rattle.history.specs.Rows.{Rows}
 use Rattle.history.specs.Orders.{Order as Places}
-use Rattle.families.specs.Value.{pick}
+use Rattle.values.specs.Value.{pick}
 use Rattle.families.specs.Families.{families}
 use Rattle.semantics.specs.Invoking.{holds}
 use Rattle.families.specs.declared.Object.{Object}

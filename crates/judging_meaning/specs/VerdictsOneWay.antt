@@ -17,14 +17,14 @@ use Rattle.history.specs.Ways.{searched}
 use Rattle.history.specs.Attempts.{attempts-bound}
 use Rattle.history.specs.Alike.{order-alike}
 use Rattle.history.specs.OneWay.{refused-stays}
-use Rattle.families.specs.Sizes.{threads}
-use Rattle.families.specs.Value.{pick}
+use Rattle.values.specs.Sizes.{threads}
+use Rattle.values.specs.Value.{pick}
 use Rattle.families.specs.Families.{State, families}
 use Rattle.families.specs.Same.{lawful}
 use Rattle.semantics.specs.Invoking.{holds}
 use Rattle.families.specs.declared.Object.{Object}
-use Rattle.recording.specs.declared.consistency_tester.History.{History}
-use Rattle.recording.specs.EventSteps.{begunOf}
+use Rattle.stepping.specs.declared.history.History.{History}
+use Rattle.stepping.specs.EventSteps.{begunOf}
 use Rattle.recording_meaning.specs.Models.{Model, rows-of, sequentialModel, linearizabilityModel}
 use Rattle.recording_meaning.specs.Lawful.{Lawful, sequential-lawful, linearizability-lawful}
 use Rattle.recording_meaning.specs.EventTurns.{good-of}

@@ -7,19 +7,20 @@ use native.Mathlib.Omega.{arith}
 use lib.Dec.{ltb, leb}
 use lib.ListN.{length, replicate, drop, length-set, length-replicate}
 use borrow.Author.Tests.{le-leb, leb-true, ltb-true}
-use Rattle.families.specs.Value.{pick}
-use Rattle.families.specs.Sizes.{threads, capacity}
-use Rattle.families.specs.Refusals.{isClear, opBelongs, startCheck}
+use Rattle.values.specs.Value.{pick}
+use Rattle.values.specs.Sizes.{threads, capacity}
+use Rattle.values.specs.Checks.{isClear}
+use Rattle.families.specs.Refusals.{opBelongs, startCheck}
 use Rattle.families.specs.declared.Kind.{Kind}
 use Rattle.families.specs.declared.placing.Outcome.{Outcome}
 use Rattle.families.specs.declared.placing.Outcome.the-variants.{Pending, Returned}
-use Rattle.recording.specs.declared.consistency_tester.Operation.{Operation}
-use Rattle.recording.specs.declared.consistency_tester.History.{History}
+use Rattle.stepping.specs.declared.history.Operation.{Operation}
+use Rattle.stepping.specs.declared.history.History.{History}
 use Rattle.recording.specs.declared.shape.Look.{Look}
-use Rattle.recording.specs.Record.{blankOperation, held, operationAt, findFlying}
-use Rattle.recording.specs.Shape.{kindOf, outcomeFits, operationFits, shapeOf, shapedWith}
+use Rattle.stepping.specs.Record.{blankOperation, held, operationAt, findFlying}
+use Rattle.stepping.specs.Shape.{kindOf, outcomeFits, operationFits, shapeOf, shapedWith}
 use Rattle.recording.specs.Pass.{Looks, sizesFit, goesOn, countsIn, leftAfter, flyingAfter, noneLeft}
-use Rattle.recording.specs.RecordLaws.{held-cons, held-end, neither, both, never}
+use Rattle.stepping.specs.RecordLaws.{held-cons, held-end, neither, both, never}
 use Rattle.recording.proofs.Passing.{rest, located, rest-start, located-start, rest-end, located-end, rest-unfit, rest-no, rest-yes, located-step}
 
 -- before the operation at place i
@@ -66,22 +67,23 @@ module _ (h : History) (long : h .count ≤ length (h .ops)) (f : Kind) (flying 
   next : i < h .count → drop i (held h) ≡ operationAt h i ∷ drop (i + 1) (held h)
   next l = held-cons (h .ops) (h .count) i blankOperation l long
 
-  pub look-no : i < h .count → countsIn f left flying (operationAt h i) ≡ false → shapeOf h ≡ false
+  pub look-no : i < h .count → (counts : Bool) → counts ≡ countsIn f left flying (operationAt h i) → counts ≡ false → shapeOf h ≡ false
   unfolding countsIn
-  look-no l e = sym (k .same) ∙ ap (rest f left flying) (next l) ∙ go (operationFits f (operationAt h i)) refl
+  look-no l counts p q = sym (k .same) ∙ ap (rest f left flying) (next l) ∙ go (operationFits f (operationAt h i)) refl
     where
       os : List Operation
       os = drop (i + 1) (held h)
 
       go : (b : Bool) → operationFits f (operationAt h i) ≡ b → rest f left flying (operationAt h i ∷ os) ≡ false
       go false g = rest-unfit f left flying (operationAt h i) os g
-      go true g = rest-no f left flying (operationAt h i) os (fits-known f (operationAt h i) g) (rw g at e)
+      go true g = rest-no f left flying (operationAt h i) os (fits-known f (operationAt h i) g) (rw g at (sym p ∙ q))
 
-  pub look-more : i < h .count → countsIn f left flying (operationAt h i) ≡ true
+  pub look-more : i < h .count → (counts : Bool) → counts ≡ countsIn f left flying (operationAt h i) → counts ≡ true
       → (flying₁ left₁ : List ℕ) → flying₁ ≡ flyingAfter i flying (operationAt h i) → left₁ ≡ leftAfter left (operationAt h i)
       → Looking h f flying₁ left₁ (i + 1)
   unfolding countsIn
-  look-more l c flying₁ left₁ x y =
+  look-more l counts p q flying₁ left₁ x y =
+      let c : countsIn f left flying (operationAt h i) ≡ true = sym p ∙ q in
       let w = both (operationFits f (operationAt h i)) (goesOn left flying (operationAt h i)) c in
       let g = w .0 in
       let e = w .1 in
@@ -104,7 +106,7 @@ module _ (h : History) (long : h .count ≤ length (h .ops)) (f : Kind) (flying 
   pub look-end : h .count ≤ i → (noted : Bool) → noted ≡ true → (r : Look) → r .flying ≡ flying → r .ok ≡ noneLeft left → Looks
       (shapedWith noted h) h r
   look-end l noted n r a b = record {
-    ok = b ∙ rest-end f left flying ∙ ap (rest f left flying) (sym (past l)) ∙ k .same ∙ ap (λ (b : Bool). pick b (shapeOf h) false) (sym n);
+    ok-is = b ∙ rest-end f left flying ∙ ap (rest f left flying) (sym (past l)) ∙ k .same ∙ ap (λ (b : Bool). pick b (shapeOf h) false) (sym n);
     places = λ s t m. rw a (sym (located-end t i flying) ∙ ap (located t i flying) (sym (past l)) ∙ k .placed t);
   }
 
@@ -113,7 +115,7 @@ module _ (h : History) (long : h .count ≤ length (h .ops)) (f : Kind) (flying 
 pub looks-no : (noted : Bool) (h : History) (r : Look) → r .ok ≡ false → shapeOf h ≡ false → Looks (shapedWith noted h) h r
 looks-no noted h r a b =
     let e : shapedWith noted h ≡ false = rw b (neither noted) in
-    record { ok = a ∙ sym e; places = λ s. never (sym e ∙ s) }
+    record { ok-is = a ∙ sym e; places = λ s. never (sym e ∙ s) }
 
 -- the sizes fit, or not
 
@@ -129,7 +131,7 @@ pub sizes-no : (noted : Bool) (h : History) → sizesFit noted (h .count) (kindO
 unfolding sizesFit shapeOf
 sizes-no noted h e r a =
     let z : shapedWith noted h ≡ false = go noted (leb (h .count) capacity) (isClear (startCheck (kindOf h))) _ e in
-    record { ok = a ∙ sym z; places = λ s. never (sym z ∙ s) }
+    record { ok-is = a ∙ sym z; places = λ s. never (sym z ∙ s) }
   where
     go : (n c d x : Bool) → pick n (pick c d false) false ≡ false → pick n (pick c (pick d x false) false) false ≡ false
     go false c d x z = refl

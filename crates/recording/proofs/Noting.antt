@@ -5,23 +5,25 @@ use mathlib.Core.Bool.{Bool, true, false}
 use mathlib.Core.List.{List}
 use lib.Dec.{ltb}
 use borrow.Author.Tests.{ltb-true}
-use Rattle.families.specs.Value.{pick}
-use Rattle.families.specs.Sizes.{threads, capacity}
+use Rattle.values.specs.Value.{pick}
+use Rattle.values.specs.Sizes.{threads, capacity}
 use Rattle.families.specs.Refusals.{opBelongs}
-use Rattle.families.specs.declared.refusal.Check.{Check}
-use Rattle.families.specs.declared.refusal.Check.the-variants.{Clear, Refused}
+use Rattle.values.specs.declared.refusal.Check.{Check}
+use Rattle.values.specs.declared.refusal.Check.the-variants.{Clear, Refused}
 use Rattle.families.specs.declared.Op.{Op}
-use Rattle.recording.specs.declared.consistency_tester.History.{History}
-use Rattle.recording.specs.declared.consistency_tester.Flying.{Flying}
-use Rattle.recording.specs.declared.consistency_tester.Flying.the-variants.{At, Nothing}
-use Rattle.recording.specs.declared.consistency_tester.Reason.the-variants.{AlreadyInvalid, NoSuchThread, OutOfShape}
-use Rattle.recording.specs.declared.consistency_tester.Step.{Step}
+use Rattle.stepping.specs.declared.history.History.{History}
+use Rattle.stepping.specs.declared.history.Flying.{Flying}
+use Rattle.stepping.specs.declared.history.Flying.the-variants.{At, Nothing}
+use Rattle.stepping.specs.declared.recorded.Reason.the-variants.{AlreadyInvalid, NoSuchThread, OutOfShape}
+use Rattle.stepping.specs.declared.step.Step.{Step}
 use Rattle.recording.specs.declared.linearizability.LinearizabilityTester.{LinearizabilityTester}
-use Rattle.recording.specs.Record.{findFlying}
-use Rattle.recording.specs.Shape.{kindOf}
-use Rattle.recording.specs.EventSteps.{isTaken, unless, refuse, owned, invokeBy, invokeOf}
+use Rattle.stepping.specs.Record.{findFlying}
+use Rattle.stepping.specs.Shape.{kindOf}
+use Rattle.stepping.specs.EventSteps.{isTaken, unless, refuse, owned, invokeBy, invokeOf}
 use Rattle.recording.specs.Testers.{shapedTester, notesWith, notesAfter, linearizabilityAfter, invokedBy, linearizabilityInvoke}
-use Rattle.recording.specs.RecordLaws.{never}
+use Rattle.stepping.specs.RecordLaws.{never}
+use Rattle.recording.specs.Pass.{notedAt}
+use Rattle.recording.specs.NotesLaws.{noted-in}
 
 -- there is room, and the thread is one of the eight
 pub taken-in : (shaped : Bool) (h : History) (t : ℕ) (op : Op) (s : Step) → s ≡ invokeOf shaped h t op → isTaken (s .recorded) ≡ true
@@ -52,9 +54,11 @@ module _ (t : LinearizabilityTester) (thread : ℕ) (op : Op) (s : Step) (e : s 
   either k = sym (ap (λ (b : Bool). pick b written (t .notes)) k)
 
   pub invoked-yes : isTaken (s .recorded) ≡ true → (notes : List ℕ)
-      → notes ≡ notesWith (t .history .done) thread (t .history .count) (t .notes) threads → linearizabilityAfter s notes ≡ linearizabilityInvoke t thread op
+      → notes ≡ notedAt (t .history .done) thread (t .history .count) (t .notes) → linearizabilityAfter s notes ≡ linearizabilityInvoke t thread op
   unfolding linearizabilityInvoke written
-  invoked-yes k notes n = ap (linearizabilityAfter s) (n ∙ either k) ∙ ap (invokedBy t thread) e
+  invoked-yes k notes n =
+      let l = taken-in (shapedTester t) (t .history) thread op s e k .0 in
+      ap (linearizabilityAfter s) (n ∙ noted-in (t .history .done) thread (t .history .count) (t .notes) l ∙ either k) ∙ ap (invokedBy t thread) e
 
   pub invoked-no : isTaken (s .recorded) ≡ false → linearizabilityAfter s (t .notes) ≡ linearizabilityInvoke t thread op
   unfolding linearizabilityInvoke

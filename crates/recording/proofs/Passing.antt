@@ -9,21 +9,23 @@ use lib.Dec.{leb, eqb, eqb·suc-suc}
 use lib.ListN.{length, getD, set, replicate}
 use lib.Seq.{getD-set-same, getD-set-other}
 use borrow.Author.Tests.{eq-eqb, ne-eqb, eqb-true, eqb-false}
-use Rattle.families.specs.Value.{pick}
-use Rattle.families.specs.Sizes.{threads, capacity}
-use Rattle.families.specs.Refusals.{isClear, startCheck}
+use Rattle.values.specs.Value.{pick}
+use Rattle.values.specs.Sizes.{threads, capacity}
+use Rattle.values.specs.Checks.{isClear}
+use Rattle.families.specs.Refusals.{startCheck}
 use Rattle.families.specs.declared.Kind.{Kind}
 use Rattle.families.specs.declared.Ret.{Ret}
 use Rattle.families.specs.declared.placing.Outcome.{Outcome}
 use Rattle.families.specs.declared.placing.Outcome.the-variants.{Pending, Returned}
-use Rattle.recording.specs.declared.consistency_tester.Operation.{Operation}
-use Rattle.recording.specs.declared.consistency_tester.History.{History}
-use Rattle.recording.specs.declared.consistency_tester.Flying.{Flying}
-use Rattle.recording.specs.declared.consistency_tester.Flying.the-variants.{At, Nothing}
-use Rattle.recording.specs.Record.{held, isPending, flyingBy, flyingFrom, findFlying}
-use Rattle.recording.specs.Shape.{kindOf, doneBy, countDone, operationFits, operationsFit, noneOf, flyingLast, countsRight, shapeOf}
-use Rattle.recording.specs.Pass.{placeOf, countsBy, goesOn, leftAfter, flyingAfter, noneLeft}
-use Rattle.recording.specs.RecordLaws.{neither, both, below-no, below-same}
+use Rattle.stepping.specs.declared.history.Operation.{Operation}
+use Rattle.stepping.specs.declared.history.History.{History}
+use Rattle.stepping.specs.declared.history.Flying.{Flying}
+use Rattle.stepping.specs.declared.history.Flying.the-variants.{At, Nothing}
+use Rattle.stepping.specs.Record.{held, isPending, flyingBy, flyingFrom, findFlying}
+use Rattle.stepping.specs.Shape.{kindOf, doneBy, countDone, operationFits, operationsFit, noneOf, flyingLast, countsRight, shapeOf}
+use Rattle.stepping.specs.StepChecks.{placeOf}
+use Rattle.recording.specs.Pass.{countsBy, goesOn, leftAfter, flyingAfter, noneLeft}
+use Rattle.stepping.specs.RecordLaws.{neither, both, below-no, below-same}
 
 -- no operation of a thread that has a mark
 unfoldable pub clear : List ℕ → List Operation → Bool

@@ -1,10 +1,3 @@
-pub mod Record
-pub mod Shape
-pub mod EventSteps
 pub mod Testers
 pub mod Pass
-pub mod OneStep
-pub mod RecordLaws
-pub mod HeldPlaces
-pub mod Admitting
-pub mod Drawn
+pub mod NotesLaws

@@ -1,23 +1,25 @@
 -- What each public call of the two testers hands back.
 use Prim.Native.Nat.{ℕ, zero, suc, _+_, _*_}
-use mathlib.Core.Bool.{Bool, true}
+use mathlib.Core.Bool.{Bool, true, false}
 use mathlib.Core.List.{List}
 use lib.ListN.{getD, set, replicate}
-use Rattle.families.specs.Value.{pick}
-use Rattle.families.specs.Sizes.{threads, capacity}
+use lib.Dec.{leb}
+use Rattle.values.specs.Value.{pick}
+use Rattle.values.specs.Sizes.{threads, capacity}
 use Rattle.families.specs.declared.Object.{Object}
 use Rattle.families.specs.declared.Op.{Op}
 use Rattle.families.specs.declared.Ret.{Ret}
-use Rattle.recording.specs.declared.consistency_tester.History.{History}
-use Rattle.recording.specs.declared.consistency_tester.Step.{Step}
+use Rattle.stepping.specs.declared.history.History.{History}
+use Rattle.stepping.specs.declared.step.Step.{Step}
 use Rattle.recording.specs.declared.sequential_consistency.SequentialConsistencyTester.{SequentialConsistencyTester}
 use Rattle.recording.specs.declared.sequential_consistency.New.{New as SNew}
 use Rattle.recording.specs.declared.sequential_consistency.After.{After as SAfter}
 use Rattle.recording.specs.declared.linearizability.LinearizabilityTester.{LinearizabilityTester}
 use Rattle.recording.specs.declared.linearizability.New.{New as LNew}
 use Rattle.recording.specs.declared.linearizability.After.{After as LAfter}
-use Rattle.recording.specs.Shape.{notable, shapedWith, notesShaped}
-use Rattle.recording.specs.EventSteps.{isTaken, begunOf, invokeOf, returnOf, sizeOf}
+use Rattle.stepping.specs.Record.{held}
+use Rattle.stepping.specs.Shape.{notable, notesFitFrom, shapedWith}
+use Rattle.stepping.specs.EventSteps.{isTaken, begunOf, invokeOf, returnOf, sizeOf}
 
 -- the sequential tester: the history alone
 
@@ -52,6 +54,11 @@ linearizability h notes = record { history = h; notes = notes }
 
 unfoldable pub newLinearizability : Object → LNew
 newLinearizability start = record { made = begunOf start .made; tester = linearizability (begunOf start .history) (replicate (capacity * threads) 0) }
+
+-- the notes in shape, beside a history that is not too long
+unfoldable pub notesShaped : LinearizabilityTester → Bool
+notesShaped t =
+    pick (leb (t .history .count) capacity) (notesFitFrom (t .history .done) (t .notes) 0 (held (t .history))) false
 
 -- both the history and its notes in shape
 abbrev pub shapedTester : LinearizabilityTester → Bool

@@ -2,7 +2,5 @@
 // any order whatever.
 pub mod consistency_tester;
 pub mod linearizability;
-pub mod refusal;
 pub mod sequential_consistency;
 pub mod shape;
-pub mod step;

@@ -1,19 +1,22 @@
 // A tester of linearizability: it also notes, with each operation, what had completed before it was invoked.
 use crate::consistency_tester;
-use crate::consistency_tester::History;
-use crate::consistency_tester::Made;
-use crate::consistency_tester::Recorded;
 use crate::shape::look_at;
 use families::Object;
 use families::Op;
 use families::Ret;
 use families::event::Event;
-use families::sizes::OPERATIONS;
-use families::sizes::THREADS;
+use stepping::history::History;
+use stepping::history::begin;
+use stepping::recorded::Made;
+use stepping::recorded::Recorded;
+use stepping::recorded::is_taken;
+use values::sizes::OPERATIONS;
+use values::sizes::THREADS;
 ghost use mathlib.Core.Path.{_≡_};
 ghost use Prim.Native.Nat.{_<_};
-ghost use Rattle.families.specs.Sizes.{capacity};
-ghost use Rattle.recording.specs.Shape.{notable, notesFit, notesShaped};
+ghost use Rattle.values.specs.Sizes.{capacity};
+ghost use Rattle.stepping.specs.Shape.{notable, notesFit};
+ghost use Rattle.recording.specs.Testers.{notesShaped};
 ghost use Rattle.recording.specs.Pass.{notedAt};
 ghost use Rattle.recording.specs.Testers.{linearizability, shapedTester, newLinearizability, linearizabilityInvoke, linearizabilityReturn, linearizabilityInvret, linearizabilityLen};
 
@@ -106,7 +109,7 @@ impl LinearizabilityTester {
     pub fn new(start: Object) -> New
         ensures { λ r. ⌜ r ≡ newLinearizability start ⌝ }
     {
-        let begun = consistency_tester::begin(start);
+        let begun = begin(start);
         let made = begun.made;
         let history = begun.history;
         let tester = LinearizabilityTester {
@@ -127,7 +130,7 @@ impl LinearizabilityTester {
         let step = consistency_tester::record_event(before, event, shaped);
         let recorded = step.recorded;
         let history = step.history;
-        if consistency_tester::is_taken(recorded) {
+        if is_taken(recorded) {
             let done = before.done;
             let at = before.count;
             note(&mut notes, &done, at, thread as u8);
@@ -157,7 +160,7 @@ impl LinearizabilityTester {
     {
         let after = self.on_invoke(thread, op);
         let recorded = after.recorded;
-        if consistency_tester::is_taken(recorded) {
+        if is_taken(recorded) {
             let tester = after.tester;
             return tester.on_return(thread, ret);
         }

@@ -1,16 +1,18 @@
 // A tester of sequential consistency: it records what happens and keeps no notes.
 use crate::consistency_tester;
-use crate::consistency_tester::History;
-use crate::consistency_tester::Made;
-use crate::consistency_tester::Recorded;
 use crate::shape::look_at;
 use families::Object;
 use families::Op;
 use families::Ret;
 use families::event::Event;
+use stepping::history::History;
+use stepping::history::begin;
+use stepping::recorded::Made;
+use stepping::recorded::Recorded;
+use stepping::recorded::is_taken;
 ghost use mathlib.Core.Path.{_≡_};
 ghost use mathlib.Core.Bool.{true};
-ghost use Rattle.recording.specs.Shape.{shapedWith};
+ghost use Rattle.stepping.specs.Shape.{shapedWith};
 ghost use Rattle.recording.specs.Testers.{newSequential, sequentialInvoke, sequentialReturn, sequentialInvret, sequentialLen};
 
 pub struct SequentialConsistencyTester {
@@ -33,7 +35,7 @@ impl SequentialConsistencyTester {
     pub fn new(start: Object) -> New
         ensures { λ r. ⌜ r ≡ newSequential start ⌝ }
     {
-        let begun = consistency_tester::begin(start);
+        let begun = begin(start);
         let made = begun.made;
         let history = begun.history;
         let tester = SequentialConsistencyTester { history };
@@ -72,7 +74,7 @@ impl SequentialConsistencyTester {
     {
         let after = self.on_invoke(thread, op);
         let recorded = after.recorded;
-        if consistency_tester::is_taken(recorded) {
+        if is_taken(recorded) {
             let tester = after.tester;
             return tester.on_return(thread, ret);
         }

@@ -1,19 +1,19 @@
 // Whether a history is one that calls could have made, in one pass over its operations.
-use crate::consistency_tester::History;
-use crate::consistency_tester::Operation;
 use families::Kind;
 use families::placing::Outcome;
 use families::refusal::check_start;
-use families::refusal::is_clear;
 use families::refusal::op_belongs;
 use families::refusal::ret_belongs;
-use families::sizes::OPERATIONS;
-use families::sizes::THREADS;
+use stepping::history::History;
+use stepping::history::Operation;
+use values::refusal::is_clear;
+use values::sizes::OPERATIONS;
+use values::sizes::THREADS;
 ghost use mathlib.Core.Path.{_≡_};
 ghost use mathlib.Core.Bool.{true};
 ghost use Prim.Native.Nat.{_<_};
-ghost use Rattle.families.specs.Sizes.{capacity};
-ghost use Rattle.recording.specs.Shape.{operationFits, outcomeFits, shapedWith};
+ghost use Rattle.values.specs.Sizes.{capacity};
+ghost use Rattle.stepping.specs.Shape.{operationFits, outcomeFits, shapedWith};
 ghost use Rattle.recording.specs.Pass.{Looks, sizesFit, countsIn, leftAfter, flyingAfter, noneLeft};
 
 // Whether the history is in shape and, for each thread, where its operation in flight stands: 0 for none,

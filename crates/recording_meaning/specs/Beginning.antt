@@ -5,16 +5,16 @@ use mathlib.Core.List.{List, []}
 use lib.ListN.{replicate, length-replicate}
 use native.Mathlib.Omega.{arith}
 use Rattle.history.specs.Lists.{getD-same}
-use Rattle.families.specs.Sizes.{threads, capacity}
+use Rattle.values.specs.Sizes.{threads, capacity}
 use Rattle.families.specs.Objects.{standIn}
 use Rattle.families.specs.Refusals.{startCheck}
 use Rattle.families.specs.RefusalsExactly.{stand-in-starts}
 use Rattle.families.specs.declared.Object.{Object}
-use Rattle.families.specs.declared.refusal.Check.{Check}
-use Rattle.families.specs.declared.refusal.Check.the-variants.{Clear, Refused}
-use Rattle.recording.specs.Record.{fresh, blankOperation}
-use Rattle.recording.specs.Shape.{countDone, operationsFit, flyingLast}
-use Rattle.recording.specs.EventSteps.{begunBy, begunOf}
+use Rattle.values.specs.declared.refusal.Check.{Check}
+use Rattle.values.specs.declared.refusal.Check.the-variants.{Clear, Refused}
+use Rattle.stepping.specs.Record.{fresh, blankOperation}
+use Rattle.stepping.specs.Shape.{countDone, operationsFit, flyingLast}
+use Rattle.stepping.specs.EventSteps.{begunBy, begunOf}
 use Rattle.recording_meaning.specs.Reading.{Sized, rowsOf}
 use Rattle.recording_meaning.specs.Parts.{Parts}
 

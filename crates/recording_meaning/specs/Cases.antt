@@ -4,23 +4,23 @@ use mathlib.Core.Path.{_≡_, refl}
 use mathlib.Core.Bool.{Bool, true, false}
 use lib.Dec.{ltb}
 use borrow.Author.Tests.{ltb-true, ltb-false}
-use Rattle.families.specs.Sizes.{threads, capacity}
+use Rattle.values.specs.Sizes.{threads, capacity}
 use Rattle.families.specs.Refusals.{opBelongs, retBelongs}
 use Rattle.families.specs.declared.Op.{Op}
 use Rattle.families.specs.declared.Ret.{Ret}
-use Rattle.families.specs.declared.refusal.Refusal.{Refusal}
-use Rattle.families.specs.declared.refusal.Check.{Check}
-use Rattle.families.specs.declared.refusal.Check.the-variants.{Clear, Refused as CRefused}
-use Rattle.recording.specs.declared.consistency_tester.History.{History}
-use Rattle.recording.specs.declared.consistency_tester.Flying.{Flying}
-use Rattle.recording.specs.declared.consistency_tester.Flying.the-variants.{At, Nothing}
-use Rattle.recording.specs.declared.consistency_tester.Recorded.the-variants.{Taken, Refused}
-use Rattle.recording.specs.declared.consistency_tester.Reason.{Reason}
-use Rattle.recording.specs.declared.consistency_tester.Reason.the-variants.{AlreadyInvalid, NoSuchThread, NotOwn, InFlight, NothingInFlight, Full, OutOfShape}
-use Rattle.recording.specs.declared.consistency_tester.Step.{Step}
-use Rattle.recording.specs.Record.{held, findFlying, invalidated, extended, completed}
-use Rattle.recording.specs.Shape.{kindOf}
-use Rattle.recording.specs.EventSteps.{breaks, unless, step, refuse, owned, admitted, invokeBy, invokeOf, returnBy, returnOf}
+use Rattle.values.specs.declared.refusal.Refusal.{Refusal}
+use Rattle.values.specs.declared.refusal.Check.{Check}
+use Rattle.values.specs.declared.refusal.Check.the-variants.{Clear, Refused as CRefused}
+use Rattle.stepping.specs.declared.history.History.{History}
+use Rattle.stepping.specs.declared.history.Flying.{Flying}
+use Rattle.stepping.specs.declared.history.Flying.the-variants.{At, Nothing}
+use Rattle.stepping.specs.declared.recorded.Recorded.the-variants.{Taken, Refused}
+use Rattle.stepping.specs.declared.recorded.Reason.{Reason}
+use Rattle.stepping.specs.declared.recorded.Reason.the-variants.{AlreadyInvalid, NoSuchThread, NotOwn, InFlight, NothingInFlight, Full, OutOfShape}
+use Rattle.stepping.specs.declared.step.Step.{Step}
+use Rattle.stepping.specs.Record.{held, findFlying, invalidated, extended, completed}
+use Rattle.stepping.specs.Shape.{kindOf}
+use Rattle.stepping.specs.EventSteps.{breaks, unless, step, refuse, owned, admitted, invokeBy, invokeOf, returnBy, returnOf}
 use Rattle.recording_meaning.specs.Numbers.{Admitted}
 use Rattle.recording_meaning.specs.Held.{flies, Found, found-at, found-none}
 

@@ -7,18 +7,18 @@ use mathlib.Core.List.{List}
 use native.Mathlib.Omega.{arith}
 use Rattle.history.specs.Lists.{not-both}
 use Rattle.history.specs.Recorder.{extend, close, new as put}
-use Rattle.families.specs.Sizes.{capacity}
+use Rattle.values.specs.Sizes.{capacity}
 use Rattle.families.specs.Families.{families}
 use Rattle.families.specs.declared.Op.{Op}
 use Rattle.families.specs.declared.Ret.{Ret}
-use Rattle.families.specs.declared.refusal.Check.{Check}
-use Rattle.recording.specs.declared.consistency_tester.Recorded.{Recorded}
-use Rattle.recording.specs.declared.consistency_tester.Recorded.the-variants.{Taken, Refused}
-use Rattle.recording.specs.declared.consistency_tester.Reason.{Reason}
-use Rattle.recording.specs.declared.consistency_tester.Reason.the-variants.{InFlight, NothingInFlight, Full}
-use Rattle.recording.specs.declared.consistency_tester.Step.{Step}
-use Rattle.recording.specs.Record.{held, invalidated, extended, completed}
-use Rattle.recording.specs.EventSteps.{isTaken, step, refuse}
+use Rattle.values.specs.declared.refusal.Check.{Check}
+use Rattle.stepping.specs.declared.recorded.Recorded.{Recorded}
+use Rattle.stepping.specs.declared.recorded.Recorded.the-variants.{Taken, Refused}
+use Rattle.stepping.specs.declared.recorded.Reason.{Reason}
+use Rattle.stepping.specs.declared.recorded.Reason.the-variants.{InFlight, NothingInFlight, Full}
+use Rattle.stepping.specs.declared.step.Step.{Step}
+use Rattle.stepping.specs.Record.{held, invalidated, extended, completed}
+use Rattle.stepping.specs.EventSteps.{isTaken, step, refuse}
 use Rattle.recording_meaning.specs.Reading.{Sized, rowsOf}
 use Rattle.recording_meaning.specs.Held.{flies, Found, found-flies}
 use Rattle.recording_meaning.specs.Parts.{Parts}

@@ -7,14 +7,14 @@ use lib.Dec.{eqb}
 use borrow.Author.Tests.{eqb-false, ne-eqb}
 use native.Mathlib.Omega.{arith}
 use Rattle.history.specs.Lists.{not-both}
-use Rattle.families.specs.Value.{pick}
+use Rattle.values.specs.Value.{pick}
 use Rattle.families.specs.declared.Kind.{Kind}
 use Rattle.families.specs.declared.Op.{Op}
 use Rattle.families.specs.declared.Ret.{Ret}
 use Rattle.families.specs.declared.placing.Outcome.the-variants.{Pending, Returned}
-use Rattle.recording.specs.declared.consistency_tester.Operation.{Operation}
-use Rattle.recording.specs.Record.{operation, isPending, flyingBy}
-use Rattle.recording.specs.Shape.{doneBy, countDone, operationFits, operationsFit, noneOf, flyingLast}
+use Rattle.stepping.specs.declared.history.Operation.{Operation}
+use Rattle.stepping.specs.Record.{operation, isPending, flyingBy}
+use Rattle.stepping.specs.Shape.{doneBy, countDone, operationFits, operationsFit, noneOf, flyingLast}
 use Rattle.recording_meaning.specs.Held.{flies}
 use Rattle.recording_meaning.specs.Parts.{pick-left, pick-right, pick-both}
 

@@ -10,17 +10,17 @@ use borrow.Author.Tests.{eqb-true, eq-eqb}
 use native.Mathlib.Numerals.{add-one}
 use native.Mathlib.Omega.{arith}
 use Rattle.history.specs.Lists.{not-both}
-use Rattle.families.specs.Value.{pick}
-use Rattle.families.specs.Sizes.{capacity}
+use Rattle.values.specs.Value.{pick}
+use Rattle.values.specs.Sizes.{capacity}
 use Rattle.families.specs.declared.Op.{Op}
 use Rattle.families.specs.declared.Ret.{Ret}
 use Rattle.families.specs.declared.placing.Outcome.{Outcome}
 use Rattle.families.specs.declared.placing.Outcome.the-variants.{Pending, Returned}
-use Rattle.recording.specs.declared.consistency_tester.Operation.{Operation}
-use Rattle.recording.specs.declared.consistency_tester.History.{History}
-use Rattle.recording.specs.declared.consistency_tester.Flying.{Flying}
-use Rattle.recording.specs.declared.consistency_tester.Flying.the-variants.{At, Nothing}
-use Rattle.recording.specs.Record.{operation, blankOperation, held, operationAt, isPending, flyingBy, flyingFrom, findFlying, extended, completed}
+use Rattle.stepping.specs.declared.history.Operation.{Operation}
+use Rattle.stepping.specs.declared.history.History.{History}
+use Rattle.stepping.specs.declared.history.Flying.{Flying}
+use Rattle.stepping.specs.declared.history.Flying.the-variants.{At, Nothing}
+use Rattle.stepping.specs.Record.{operation, blankOperation, held, operationAt, isPending, flyingBy, flyingFrom, findFlying, extended, completed}
 use Rattle.recording_meaning.specs.Reading.{Sized}
 
 -- one more

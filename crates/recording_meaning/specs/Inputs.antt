@@ -9,10 +9,10 @@ use Rattle.history.specs.Rows.{Rows}
 use Rattle.families.specs.Refusals.{opBelongs, retBelongs}
 use Rattle.families.specs.Families.{families}
 use Rattle.families.specs.declared.Kind.{Kind}
-use Rattle.families.specs.declared.refusal.Check.the-variants.{Clear}
-use Rattle.recording.specs.declared.consistency_tester.Recorded.{Recorded}
-use Rattle.recording.specs.declared.consistency_tester.Recorded.the-variants.{Taken, Refused}
-use Rattle.recording.specs.EventSteps.{isTaken, breaks}
+use Rattle.values.specs.declared.refusal.Check.the-variants.{Clear}
+use Rattle.stepping.specs.declared.recorded.Recorded.{Recorded}
+use Rattle.stepping.specs.declared.recorded.Recorded.the-variants.{Taken, Refused}
+use Rattle.stepping.specs.EventSteps.{isTaken, breaks}
 use Rattle.recording_meaning.specs.Models.{Model, rows-of}
 
 -- 4 or 5

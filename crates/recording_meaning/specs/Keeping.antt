@@ -9,19 +9,19 @@ use lib.Dec.{eqb}
 use borrow.Author.Tests.{eq-eqb, ne-eqb}
 use native.Mathlib.Omega.{arith}
 use Rattle.history.specs.Lists.{own-or-other}
-use Rattle.families.specs.Value.{pick}
-use Rattle.families.specs.Sizes.{threads, capacity}
+use Rattle.values.specs.Value.{pick}
+use Rattle.values.specs.Sizes.{threads, capacity}
 use Rattle.families.specs.Refusals.{opBelongs, retBelongs}
 use Rattle.families.specs.Room.{clear-yes}
 use Rattle.families.specs.declared.Kind.{Kind}
 use Rattle.families.specs.declared.Op.{Op}
 use Rattle.families.specs.declared.Ret.{Ret}
-use Rattle.families.specs.declared.refusal.Check.the-variants.{Clear}
+use Rattle.values.specs.declared.refusal.Check.the-variants.{Clear}
 use Rattle.families.specs.declared.placing.Outcome.the-variants.{Pending, Returned}
-use Rattle.recording.specs.declared.consistency_tester.Operation.{Operation}
-use Rattle.recording.specs.declared.consistency_tester.History.{History}
-use Rattle.recording.specs.Record.{operation, held, isPending, invalidated, extended, completed}
-use Rattle.recording.specs.Shape.{kindOf, countDone, outcomeFits, operationFits, operationsFit, flyingLast}
+use Rattle.stepping.specs.declared.history.Operation.{Operation}
+use Rattle.stepping.specs.declared.history.History.{History}
+use Rattle.stepping.specs.Record.{operation, held, isPending, invalidated, extended, completed}
+use Rattle.stepping.specs.Shape.{kindOf, countDone, outcomeFits, operationFits, operationsFit, flyingLast}
 use Rattle.recording_meaning.specs.Reading.{Sized}
 use Rattle.recording_meaning.specs.Held.{held-extended, flies, Found, held-completed}
 use Rattle.recording_meaning.specs.Parts.{pick-left, pick-right, pick-both, operation-parts, operation-fits, Parts}

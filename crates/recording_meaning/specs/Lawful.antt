@@ -6,37 +6,23 @@ use mathlib.Core.Bool.{Bool, true, false}
 use mathlib.Core.List.{List}
 use lib.ListN.{length, replicate, length-replicate}
 use native.Mathlib.Omega.{arith}
-use Rattle.families.specs.Sizes.{threads, capacity}
-use Rattle.families.specs.Value.{pick}
+use Rattle.values.specs.Sizes.{threads, capacity}
+use Rattle.values.specs.Value.{pick}
 use Rattle.families.specs.declared.Object.{Object}
 use Rattle.families.specs.declared.Op.{Op}
 use Rattle.families.specs.declared.Ret.{Ret}
-use Rattle.recording.specs.declared.consistency_tester.History.{History}
-use Rattle.recording.specs.declared.consistency_tester.Recorded.{Recorded}
-use Rattle.recording.specs.declared.consistency_tester.Recorded.the-variants.{Taken}
-use Rattle.recording.specs.declared.consistency_tester.Step.{Step}
+use Rattle.stepping.specs.declared.history.History.{History}
+use Rattle.stepping.specs.declared.recorded.Recorded.{Recorded}
+use Rattle.stepping.specs.declared.recorded.Recorded.the-variants.{Taken}
+use Rattle.stepping.specs.declared.step.Step.{Step}
 use Rattle.recording.specs.declared.linearizability.After.{After as LAfter}
 use Rattle.recording.specs.declared.linearizability.LinearizabilityTester.{LinearizabilityTester}
 use Rattle.recording.specs.declared.sequential_consistency.After.{After as SAfter}
-use Rattle.recording.specs.Record.{fresh, invalidated, extended, completed}
-use Rattle.recording.specs.Shape.{shapeOf, notesShaped}
-use Rattle.recording.specs.EventSteps.{isTaken, step, begunOf, invokeOf, returnOf, sizeOf}
-use Rattle.recording.specs.Testers.{
-  sequential,
-  newSequential,
-  sequentialInvoke,
-  sequentialReturn,
-  sequentialInvret,
-  sequentialLen,
-  linearizability,
-  notesWith,
-  notesAfter,
-  newLinearizability,
-  linearizabilityInvoke,
-  linearizabilityReturn,
-  linearizabilityInvret,
-  linearizabilityLen,
-}
+use Rattle.stepping.specs.Record.{fresh, invalidated, extended, completed}
+use Rattle.stepping.specs.Shape.{shapeOf}
+use Rattle.recording.specs.Testers.{notesShaped}
+use Rattle.stepping.specs.EventSteps.{isTaken, step, begunOf, invokeOf, returnOf, sizeOf}
+use Rattle.recording.specs.Testers.{sequential, newSequential, sequentialInvoke, sequentialReturn, sequentialInvret, sequentialLen, linearizability, notesWith, notesAfter, newLinearizability, linearizabilityInvoke, linearizabilityReturn, linearizabilityInvret, linearizabilityLen}
 use Rattle.recording_meaning.specs.Reading.{Sized, notesOf}
 use Rattle.recording_meaning.specs.Beginning.{begun-is}
 use Rattle.recording_meaning.specs.Parts.{pick-left, pick-right, pick-both, Parts, parts-of, of-parts}

@@ -10,18 +10,18 @@ use lib.Dec.{eqb}
 use borrow.Author.Tests.{eq-eqb, ne-eqb}
 use native.Mathlib.Omega.{arith}
 use Rattle.history.specs.Lists.{own-or-other, not-both, getD-same}
-use Rattle.families.specs.Value.{pick}
-use Rattle.families.specs.Sizes.{threads, capacity}
+use Rattle.values.specs.Value.{pick}
+use Rattle.values.specs.Sizes.{threads, capacity}
 use Rattle.families.specs.declared.Object.{Object}
 use Rattle.families.specs.declared.Op.{Op}
 use Rattle.families.specs.declared.Ret.{Ret}
 use Rattle.families.specs.declared.placing.Outcome.the-variants.{Pending, Returned}
-use Rattle.recording.specs.declared.consistency_tester.Operation.{Operation}
-use Rattle.recording.specs.declared.consistency_tester.History.{History}
-use Rattle.recording.specs.declared.consistency_tester.Flying.the-variants.{At, Nothing}
-use Rattle.recording.specs.Record.{operation, held, fresh, isPending, flyingBy, flyingFrom, findFlying, extended, completed}
-use Rattle.recording.specs.Shape.{noneOf, flyingLast}
-use Rattle.recording.specs.Pass.{placeOf}
+use Rattle.stepping.specs.declared.history.Operation.{Operation}
+use Rattle.stepping.specs.declared.history.History.{History}
+use Rattle.stepping.specs.declared.history.Flying.the-variants.{At, Nothing}
+use Rattle.stepping.specs.Record.{operation, held, fresh, isPending, flyingBy, flyingFrom, findFlying, extended, completed}
+use Rattle.stepping.specs.Shape.{noneOf, flyingLast}
+use Rattle.stepping.specs.StepChecks.{placeOf}
 use Rattle.recording_meaning.specs.Reading.{Sized}
 use Rattle.recording_meaning.specs.Held.{held-extended, flies, Found, found-at, found-none, flying-none, held-completed}
 use Rattle.recording_meaning.specs.Exchanges.{last-first, last-rest}

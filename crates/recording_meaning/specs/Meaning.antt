@@ -6,18 +6,18 @@ use mathlib.Core.Bool.{true, false}
 use Rattle.history.specs.Events.{Events}
 use Rattle.history.specs.Rows.{Rows, AllShaped, operations}
 use Rattle.history.specs.Recorder.{extend, close, new as put, Fed}
-use Rattle.families.specs.Sizes.{threads, capacity}
-use Rattle.families.specs.Value.{pick}
+use Rattle.values.specs.Sizes.{threads, capacity}
+use Rattle.values.specs.Value.{pick}
 use Rattle.families.specs.Families.{families}
 use Rattle.families.specs.declared.Object.{Object}
 use Rattle.families.specs.declared.Op.{Op}
 use Rattle.families.specs.declared.Ret.{Ret}
-use Rattle.recording.specs.declared.consistency_tester.Made.{Made}
-use Rattle.recording.specs.declared.consistency_tester.Recorded.{Recorded}
-use Rattle.recording.specs.declared.consistency_tester.Recorded.the-variants.{Taken}
-use Rattle.recording.specs.Record.{invalidated}
-use Rattle.recording.specs.Shape.{kindOf}
-use Rattle.recording.specs.EventSteps.{numberOf, isTaken, begunOf}
+use Rattle.stepping.specs.declared.recorded.Made.{Made}
+use Rattle.stepping.specs.declared.recorded.Recorded.{Recorded}
+use Rattle.stepping.specs.declared.recorded.Recorded.the-variants.{Taken}
+use Rattle.stepping.specs.Record.{invalidated}
+use Rattle.stepping.specs.Shape.{kindOf}
+use Rattle.stepping.specs.EventSteps.{numberOf, isTaken, begunOf}
 use Rattle.recording_meaning.specs.Models.{Model, rows-of, Reached}
 use Rattle.recording_meaning.specs.Numbers.{InvokeWhen, ReturnWhen, MadeWhen}
 use Rattle.recording_meaning.specs.Inputs.{broke, broken, Own, invocations-in, feed, drawn, taken, Wellfed}

@@ -9,25 +9,25 @@ use Rattle.history.specs.Events.{Events}
 use Rattle.history.specs.Rows.{Rows}
 use Rattle.history.specs.Notes.{Tells, fed-tells}
 use Rattle.history.specs.Recorder.{extend, close, new as put}
-use Rattle.families.specs.Value.{pick}
-use Rattle.families.specs.Refusals.{numberOf as refusalNumber}
+use Rattle.values.specs.Value.{pick}
+use Rattle.values.specs.Checks.{numberOf as refusalNumber}
 use Rattle.families.specs.RefusalsExactly.{op-three, ret-three}
 use Rattle.families.specs.Families.{families}
 use Rattle.families.specs.declared.Object.{Object}
 use Rattle.families.specs.declared.Op.{Op}
 use Rattle.families.specs.declared.Ret.{Ret}
-use Rattle.families.specs.declared.refusal.Refusal.{Refusal}
-use Rattle.families.specs.declared.refusal.Check.{Check}
-use Rattle.families.specs.declared.refusal.Check.the-variants.{Refused as CRefused}
-use Rattle.recording.specs.declared.consistency_tester.Made.{Made}
-use Rattle.recording.specs.declared.consistency_tester.Recorded.{Recorded}
-use Rattle.recording.specs.declared.consistency_tester.Recorded.the-variants.{Taken, Refused}
-use Rattle.recording.specs.declared.consistency_tester.Reason.{Reason}
-use Rattle.recording.specs.declared.consistency_tester.Reason.the-variants.{AlreadyInvalid, NoSuchThread, NotOwn, InFlight, NothingInFlight, Full, OutOfShape}
+use Rattle.values.specs.declared.refusal.Refusal.{Refusal}
+use Rattle.values.specs.declared.refusal.Check.{Check}
+use Rattle.values.specs.declared.refusal.Check.the-variants.{Refused as CRefused}
+use Rattle.stepping.specs.declared.recorded.Made.{Made}
+use Rattle.stepping.specs.declared.recorded.Recorded.{Recorded}
+use Rattle.stepping.specs.declared.recorded.Recorded.the-variants.{Taken, Refused}
+use Rattle.stepping.specs.declared.recorded.Reason.{Reason}
+use Rattle.stepping.specs.declared.recorded.Reason.the-variants.{AlreadyInvalid, NoSuchThread, NotOwn, InFlight, NothingInFlight, Full, OutOfShape}
 use Rattle.recording.specs.declared.linearizability.LinearizabilityTester.{LinearizabilityTester}
 use Rattle.recording.specs.declared.sequential_consistency.SequentialConsistencyTester.{SequentialConsistencyTester}
-use Rattle.recording.specs.Shape.{kindOf, InShape, NotesInShape}
-use Rattle.recording.specs.EventSteps.{reasonNumber, numberOf, isTaken, breaks, sizeOf}
+use Rattle.stepping.specs.Shape.{kindOf, InShape, NotesInShape}
+use Rattle.stepping.specs.EventSteps.{reasonNumber, numberOf, isTaken, breaks, sizeOf}
 use Rattle.recording_meaning.specs.Cases.{Barred, barred-keeps}
 use Rattle.recording_meaning.specs.ShapeExactly.{shape-exactly, tester-exactly}
 use Rattle.recording_meaning.specs.Shaping.{rows-shaped}

@@ -6,30 +6,18 @@ use mathlib.Core.List.{List}
 use lib.ListN.{length}
 use Rattle.history.specs.Rows.{Rows}
 use Rattle.history.specs.Recorder.{notes, no-notes}
-use Rattle.families.specs.Sizes.{threads, capacity}
+use Rattle.values.specs.Sizes.{threads, capacity}
 use Rattle.families.specs.Families.{families}
 use Rattle.families.specs.declared.Object.{Object}
 use Rattle.families.specs.declared.Op.{Op}
 use Rattle.families.specs.declared.Ret.{Ret}
-use Rattle.recording.specs.declared.consistency_tester.History.{History}
-use Rattle.recording.specs.declared.consistency_tester.Made.{Made}
-use Rattle.recording.specs.declared.consistency_tester.Recorded.{Recorded}
+use Rattle.stepping.specs.declared.history.History.{History}
+use Rattle.stepping.specs.declared.recorded.Made.{Made}
+use Rattle.stepping.specs.declared.recorded.Recorded.{Recorded}
 use Rattle.recording.specs.declared.linearizability.LinearizabilityTester.{LinearizabilityTester}
 use Rattle.recording.specs.declared.sequential_consistency.SequentialConsistencyTester.{SequentialConsistencyTester}
-use Rattle.recording.specs.Shape.{shapedWith}
-use Rattle.recording.specs.Testers.{
-  newSequential,
-  sequentialInvoke,
-  sequentialReturn,
-  sequentialInvret,
-  sequentialLen,
-  shapedTester,
-  newLinearizability,
-  linearizabilityInvoke,
-  linearizabilityReturn,
-  linearizabilityInvret,
-  linearizabilityLen,
-}
+use Rattle.stepping.specs.Shape.{shapedWith}
+use Rattle.recording.specs.Testers.{newSequential, sequentialInvoke, sequentialReturn, sequentialInvret, sequentialLen, shapedTester, newLinearizability, linearizabilityInvoke, linearizabilityReturn, linearizabilityInvret, linearizabilityLen}
 use Rattle.recording_meaning.specs.Reading.{Sized, rowsOf, noNotes, notesOf}
 
 -- A tester, and what its calls answer and leave.

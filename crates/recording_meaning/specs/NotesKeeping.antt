@@ -9,16 +9,17 @@ use lib.Dec.{eqb, ltb, leb}
 use borrow.Author.Tests.{ltb-true, ltb-false, leb-true, le-leb}
 use native.Mathlib.Omega.{arith}
 use Rattle.history.specs.Lists.{own-or-other}
-use Rattle.families.specs.Value.{pick}
-use Rattle.families.specs.Sizes.{threads, capacity}
+use Rattle.values.specs.Value.{pick}
+use Rattle.values.specs.Sizes.{threads, capacity}
 use Rattle.families.specs.declared.Op.{Op}
 use Rattle.families.specs.declared.Ret.{Ret}
 use Rattle.families.specs.declared.placing.Outcome.the-variants.{Pending, Returned}
-use Rattle.recording.specs.declared.consistency_tester.Operation.{Operation}
-use Rattle.recording.specs.declared.consistency_tester.History.{History}
+use Rattle.stepping.specs.declared.history.Operation.{Operation}
+use Rattle.stepping.specs.declared.history.History.{History}
 use Rattle.recording.specs.declared.linearizability.LinearizabilityTester.{LinearizabilityTester}
-use Rattle.recording.specs.Record.{operation, blankOperation, held, operationAt, extended, completed}
-use Rattle.recording.specs.Shape.{noteAt, notable, notesFit, notesFitFrom, notesShaped}
+use Rattle.stepping.specs.Record.{operation, blankOperation, held, operationAt, extended, completed}
+use Rattle.stepping.specs.Shape.{noteAt, notable, notesFit, notesFitFrom}
+use Rattle.recording.specs.Testers.{notesShaped}
 use Rattle.recording.specs.Testers.{notesWith}
 use Rattle.recording_meaning.specs.Reading.{Sized}
 use Rattle.recording_meaning.specs.Parts.{pick-left, pick-right, pick-both, below-each, each-below}

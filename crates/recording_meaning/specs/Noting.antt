@@ -11,10 +11,10 @@ use borrow.Author.Tests.{ltb-true, ltb-false, eq-eqb, ne-eqb}
 use native.Mathlib.Omega.{arith}
 use Rattle.history.specs.Lists.{own-or-other}
 use Rattle.history.specs.Recorder.{completed as completed-of, notes as history-notes}
-use Rattle.families.specs.Sizes.{threads, capacity}
+use Rattle.values.specs.Sizes.{threads, capacity}
 use Rattle.families.specs.Families.{families}
-use Rattle.recording.specs.declared.consistency_tester.History.{History}
-use Rattle.recording.specs.Shape.{noteAt, notable}
+use Rattle.stepping.specs.declared.history.History.{History}
+use Rattle.stepping.specs.Shape.{noteAt, notable}
 use Rattle.recording.specs.Testers.{notesWith}
 use Rattle.recording_meaning.specs.Reading.{notesOf, rowsOf}
 use Rattle.recording_meaning.specs.Parts.{Parts}

@@ -4,22 +4,22 @@ use mathlib.Core.Path.{_≡_}
 use mathlib.Core.Bool.{Bool, true, false}
 use Rattle.history.specs.Rows.{row}
 use Rattle.history.specs.Recorder.{flying}
-use Rattle.families.specs.Sizes.{threads, capacity}
+use Rattle.values.specs.Sizes.{threads, capacity}
 use Rattle.families.specs.Refusals.{opBelongs, retBelongs}
 use Rattle.families.specs.RefusalsExactly.{StartWhen}
 use Rattle.families.specs.Families.{families}
 use Rattle.families.specs.declared.Object.{Object}
 use Rattle.families.specs.declared.Op.{Op}
 use Rattle.families.specs.declared.Ret.{Ret}
-use Rattle.families.specs.declared.refusal.Check.{Check}
-use Rattle.families.specs.declared.refusal.Check.the-variants.{Clear, Refused as CRefused}
-use Rattle.recording.specs.declared.consistency_tester.History.{History}
-use Rattle.recording.specs.declared.consistency_tester.Made.{Made}
-use Rattle.recording.specs.declared.consistency_tester.Made.the-variants.{New, Refused as MRefused}
-use Rattle.recording.specs.declared.consistency_tester.Recorded.{Recorded}
-use Rattle.recording.specs.declared.consistency_tester.Recorded.the-variants.{Taken, Refused}
-use Rattle.recording.specs.declared.consistency_tester.Reason.the-variants.{AlreadyInvalid, NoSuchThread, NotOwn, InFlight, NothingInFlight, Full, OutOfShape}
-use Rattle.recording.specs.Shape.{kindOf}
+use Rattle.values.specs.declared.refusal.Check.{Check}
+use Rattle.values.specs.declared.refusal.Check.the-variants.{Clear, Refused as CRefused}
+use Rattle.stepping.specs.declared.history.History.{History}
+use Rattle.stepping.specs.declared.recorded.Made.{Made}
+use Rattle.stepping.specs.declared.recorded.Made.the-variants.{New, Refused as MRefused}
+use Rattle.stepping.specs.declared.recorded.Recorded.{Recorded}
+use Rattle.stepping.specs.declared.recorded.Recorded.the-variants.{Taken, Refused}
+use Rattle.stepping.specs.declared.recorded.Reason.the-variants.{AlreadyInvalid, NoSuchThread, NotOwn, InFlight, NothingInFlight, Full, OutOfShape}
+use Rattle.stepping.specs.Shape.{kindOf}
 use Rattle.recording_meaning.specs.Models.{Model, rows-of}
 
 module _ (shaped : Bool) (h : History) (t : ℕ) (said : Check) where

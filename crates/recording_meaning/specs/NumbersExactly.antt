@@ -4,24 +4,24 @@ use mathlib.Core.Path.{_≡_, refl, sym, ap, _∙_, subst}
 use mathlib.Core.Logic.{_↔_}
 use mathlib.Core.Bool.{true, false}
 use borrow.Author.Tests.{lt-ltb, le-ltb}
-use Rattle.families.specs.Sizes.{threads, capacity}
+use Rattle.values.specs.Sizes.{threads, capacity}
 use Rattle.families.specs.Refusals.{startCheck}
 use Rattle.families.specs.RefusalsExactly.{start-exactly}
 use Rattle.families.specs.declared.Object.{Object}
 use Rattle.families.specs.declared.Op.{Op}
 use Rattle.families.specs.declared.Ret.{Ret}
-use Rattle.families.specs.declared.refusal.Check.{Check}
-use Rattle.families.specs.declared.refusal.Check.the-variants.{Clear, Refused as CRefused}
-use Rattle.recording.specs.declared.consistency_tester.Flying.{Flying}
-use Rattle.recording.specs.declared.consistency_tester.Flying.the-variants.{At, Nothing}
-use Rattle.recording.specs.declared.consistency_tester.Made.{Made}
-use Rattle.recording.specs.declared.consistency_tester.Made.the-variants.{New, Refused as MRefused}
-use Rattle.recording.specs.declared.consistency_tester.Recorded.{Recorded}
-use Rattle.recording.specs.declared.consistency_tester.Recorded.the-variants.{Taken, Refused}
-use Rattle.recording.specs.declared.consistency_tester.Reason.the-variants.{AlreadyInvalid, NoSuchThread, NotOwn, InFlight, NothingInFlight, Full, OutOfShape}
-use Rattle.recording.specs.declared.consistency_tester.Step.{Step}
-use Rattle.recording.specs.Record.{held, findFlying}
-use Rattle.recording.specs.EventSteps.{begunBy, begunOf, admitted, invokeBy, invokeOf, returnBy, returnOf}
+use Rattle.values.specs.declared.refusal.Check.{Check}
+use Rattle.values.specs.declared.refusal.Check.the-variants.{Clear, Refused as CRefused}
+use Rattle.stepping.specs.declared.history.Flying.{Flying}
+use Rattle.stepping.specs.declared.history.Flying.the-variants.{At, Nothing}
+use Rattle.stepping.specs.declared.recorded.Made.{Made}
+use Rattle.stepping.specs.declared.recorded.Made.the-variants.{New, Refused as MRefused}
+use Rattle.stepping.specs.declared.recorded.Recorded.{Recorded}
+use Rattle.stepping.specs.declared.recorded.Recorded.the-variants.{Taken, Refused}
+use Rattle.stepping.specs.declared.recorded.Reason.the-variants.{AlreadyInvalid, NoSuchThread, NotOwn, InFlight, NothingInFlight, Full, OutOfShape}
+use Rattle.stepping.specs.declared.step.Step.{Step}
+use Rattle.stepping.specs.Record.{held, findFlying}
+use Rattle.stepping.specs.EventSteps.{begunBy, begunOf, admitted, invokeBy, invokeOf, returnBy, returnOf}
 use Rattle.recording_meaning.specs.Held.{flies, found-flies, flying-at, flying-none}
 use Rattle.recording_meaning.specs.Rowing.{flying-row}
 use Rattle.recording_meaning.specs.Cases.{

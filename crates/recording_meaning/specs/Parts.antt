@@ -7,16 +7,17 @@ use lib.Dec.{leb, ltb, eqb}
 use borrow.Author.Tests.{leb-true, le-leb, ltb-true, ltb-false, lt-ltb, eqb-true, eq-eqb}
 use native.Mathlib.Omega.{arith}
 use Rattle.history.specs.Lists.{not-both}
-use Rattle.families.specs.Value.{pick}
-use Rattle.families.specs.Sizes.{threads, capacity}
-use Rattle.families.specs.Refusals.{isClear, opBelongs, startCheck}
+use Rattle.values.specs.Value.{pick}
+use Rattle.values.specs.Sizes.{threads, capacity}
+use Rattle.values.specs.Checks.{isClear}
+use Rattle.families.specs.Refusals.{opBelongs, startCheck}
 use Rattle.families.specs.Room.{clear-yes}
 use Rattle.families.specs.declared.Kind.{Kind}
-use Rattle.families.specs.declared.refusal.Check.the-variants.{Clear}
-use Rattle.recording.specs.declared.consistency_tester.Operation.{Operation}
-use Rattle.recording.specs.declared.consistency_tester.History.{History}
-use Rattle.recording.specs.Record.{held}
-use Rattle.recording.specs.Shape.{kindOf, countDone, allBelow, outcomeFits, operationFits, operationsFit, flyingLast, countsRight, shapeOf}
+use Rattle.values.specs.declared.refusal.Check.the-variants.{Clear}
+use Rattle.stepping.specs.declared.history.Operation.{Operation}
+use Rattle.stepping.specs.declared.history.History.{History}
+use Rattle.stepping.specs.Record.{held}
+use Rattle.stepping.specs.Shape.{kindOf, countDone, allBelow, outcomeFits, operationFits, operationsFit, flyingLast, countsRight, shapeOf}
 
 -- two tests that must both pass
 

@@ -2,16 +2,16 @@
 use Prim.Native.Nat.{ℕ}
 use mathlib.Core.Path.{_≡_, refl, sym, _∙_, subst}
 use mathlib.Core.Bool.{Bool, true, false}
-use Rattle.families.specs.Value.{pick}
+use Rattle.values.specs.Value.{pick}
 use Rattle.families.specs.declared.Object.{Object}
 use Rattle.families.specs.declared.Op.{Op}
 use Rattle.families.specs.declared.Ret.{Ret}
-use Rattle.recording.specs.declared.consistency_tester.Recorded.{Recorded}
-use Rattle.recording.specs.declared.consistency_tester.Recorded.the-variants.{Refused}
-use Rattle.recording.specs.declared.consistency_tester.Reason.{Reason}
-use Rattle.recording.specs.declared.consistency_tester.Reason.the-variants.{InFlight, NothingInFlight, Full, OutOfShape}
-use Rattle.recording.specs.declared.consistency_tester.Step.{Step}
-use Rattle.recording.specs.EventSteps.{isTaken, refuse}
+use Rattle.stepping.specs.declared.recorded.Recorded.{Recorded}
+use Rattle.stepping.specs.declared.recorded.Recorded.the-variants.{Refused}
+use Rattle.stepping.specs.declared.recorded.Reason.{Reason}
+use Rattle.stepping.specs.declared.recorded.Reason.the-variants.{InFlight, NothingInFlight, Full, OutOfShape}
+use Rattle.stepping.specs.declared.step.Step.{Step}
+use Rattle.stepping.specs.EventSteps.{isTaken, refuse}
 use Rattle.recording_meaning.specs.Reading.{Sized}
 use Rattle.recording_meaning.specs.Parts.{Parts}
 use Rattle.recording_meaning.specs.Keeping.{keeps-invalidated, keeps-extended, keeps-completed, sized-invalidated, sized-extended, sized-completed}

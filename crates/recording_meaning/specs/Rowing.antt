@@ -9,16 +9,16 @@ use lib.Dec.{eqb}
 use native.Mathlib.Omega.{arith}
 use Rattle.history.specs.Rows.{Entry, row}
 use Rattle.history.specs.Recorder.{pending, flying, close, extend}
-use Rattle.families.specs.Value.{pick}
-use Rattle.families.specs.Sizes.{threads, capacity}
+use Rattle.values.specs.Value.{pick}
+use Rattle.values.specs.Sizes.{threads, capacity}
 use Rattle.families.specs.Families.{families}
 use Rattle.families.specs.declared.Op.{Op}
 use Rattle.families.specs.declared.Ret.{Ret}
 use Rattle.families.specs.declared.placing.Outcome.{Outcome}
 use Rattle.families.specs.declared.placing.Outcome.the-variants.{Pending, Returned}
-use Rattle.recording.specs.declared.consistency_tester.Operation.{Operation}
-use Rattle.recording.specs.declared.consistency_tester.History.{History}
-use Rattle.recording.specs.Record.{operation, held, isPending, flyingBy, invalidated, extended, completed}
+use Rattle.stepping.specs.declared.history.Operation.{Operation}
+use Rattle.stepping.specs.declared.history.History.{History}
+use Rattle.stepping.specs.Record.{operation, held, isPending, flyingBy, invalidated, extended, completed}
 use Rattle.recording_meaning.specs.Reading.{Sized, entryOf, returnIn, entries, of-thread, by-thread, rowsOf}
 use Rattle.recording_meaning.specs.Threads.{rows-length, rows-at, rows-add, rows-close}
 use Rattle.recording_meaning.specs.Held.{held-extended, flies, Found, held-completed}

@@ -6,13 +6,13 @@ use lib.ListN.{length}
 use native.Mathlib.Omega.{arith}
 use Rattle.history.specs.Lists.{not-both}
 use Rattle.history.specs.Rows.{Rows, row, Shaped}
-use Rattle.families.specs.Sizes.{threads}
+use Rattle.values.specs.Sizes.{threads}
 use Rattle.families.specs.Families.{families}
 use Rattle.families.specs.declared.Object.{Object}
 use Rattle.families.specs.declared.Op.{Op}
 use Rattle.families.specs.declared.Ret.{Ret}
-use Rattle.recording.specs.declared.consistency_tester.History.{History}
-use Rattle.recording.specs.declared.consistency_tester.Recorded.{Recorded}
+use Rattle.stepping.specs.declared.history.History.{History}
+use Rattle.stepping.specs.declared.recorded.Recorded.{Recorded}
 use Rattle.recording_meaning.specs.Rust.{Map, linearizable, Tester, Ok, Err, with-entry, on-invoke, on-return}
 use Rattle.recording_meaning.specs.RustMaps.{tabled, with-notes, history-entry, in-maps}
 use Rattle.recording_meaning.specs.RustSteps.{last-noted, invokes-busy, returns-idle, returns-closes, invokes-extends}

@@ -7,24 +7,24 @@ use lib.ListN.{length}
 use native.Mathlib.Omega.{arith}
 use Rattle.history.specs.Lists.{not-both, and-left, and-right, and-both}
 use Rattle.history.specs.Events.{Event, Events, invoked, returned, ThreadsBelow}
-use Rattle.families.specs.Sizes.{threads, capacity}
+use Rattle.values.specs.Sizes.{threads, capacity}
 use Rattle.families.specs.Families.{families}
 use Rattle.families.specs.declared.Kind.{Kind}
 use Rattle.families.specs.declared.Object.{Object}
 use Rattle.families.specs.declared.Op.{Op}
 use Rattle.families.specs.declared.Ret.{Ret}
-use Rattle.families.specs.declared.refusal.Check.{Check}
-use Rattle.families.specs.declared.refusal.Check.the-variants.{Clear}
-use Rattle.recording.specs.declared.consistency_tester.History.{History}
-use Rattle.recording.specs.declared.consistency_tester.Recorded.{Recorded}
-use Rattle.recording.specs.declared.consistency_tester.Recorded.the-variants.{Refused}
-use Rattle.recording.specs.declared.consistency_tester.Reason.{Reason}
-use Rattle.recording.specs.declared.consistency_tester.Reason.the-variants.{AlreadyInvalid}
+use Rattle.values.specs.declared.refusal.Check.{Check}
+use Rattle.values.specs.declared.refusal.Check.the-variants.{Clear}
+use Rattle.stepping.specs.declared.history.History.{History}
+use Rattle.stepping.specs.declared.recorded.Recorded.{Recorded}
+use Rattle.stepping.specs.declared.recorded.Recorded.the-variants.{Refused}
+use Rattle.stepping.specs.declared.recorded.Reason.{Reason}
+use Rattle.stepping.specs.declared.recorded.Reason.the-variants.{AlreadyInvalid}
 use Rattle.recording_meaning.specs.Rust.{Answered, Err, new, with-entry, on-invoke, on-return, len}
 use Rattle.recording_meaning.specs.RustMaps.{tabled, flight-entry}
 use Rattle.recording_meaning.specs.RustSteps.{len-operations as maps-len, stray-lengths}
-use Rattle.recording.specs.Shape.{kindOf}
-use Rattle.recording.specs.EventSteps.{isTaken}
+use Rattle.stepping.specs.Shape.{kindOf}
+use Rattle.stepping.specs.EventSteps.{isTaken}
 use Rattle.recording_meaning.specs.Rowing.{rows-many}
 use Rattle.recording_meaning.specs.Shaping.{rows-shaped}
 use Rattle.recording_meaning.specs.Cases.{Barred, invalid, stranger, foreign}

@@ -5,15 +5,15 @@ use mathlib.Core.Path.{_≡_}
 use mathlib.Core.Bool.{Bool, true, false, _&&_}
 use mathlib.Core.List.{List, [], _∷_, map}
 use Rattle.history.specs.Events.{Event, Events, invoked, returned, ThreadsBelow}
-use Rattle.families.specs.Sizes.{threads, capacity}
+use Rattle.values.specs.Sizes.{threads, capacity}
 use Rattle.families.specs.Families.{families}
 use Rattle.families.specs.declared.Object.{Object}
 use Rattle.families.specs.declared.Op.{Op}
 use Rattle.families.specs.declared.Ret.{Ret}
-use Rattle.recording.specs.declared.consistency_tester.Recorded.{Recorded}
-use Rattle.recording.specs.declared.consistency_tester.Recorded.the-variants.{Taken, Refused}
-use Rattle.recording.specs.declared.consistency_tester.Reason.the-variants.{AlreadyInvalid, NoSuchThread, NotOwn, InFlight, NothingInFlight, Full, OutOfShape}
-use Rattle.recording.specs.Shape.{kindOf}
+use Rattle.stepping.specs.declared.recorded.Recorded.{Recorded}
+use Rattle.stepping.specs.declared.recorded.Recorded.the-variants.{Taken, Refused}
+use Rattle.stepping.specs.declared.recorded.Reason.the-variants.{AlreadyInvalid, NoSuchThread, NotOwn, InFlight, NothingInFlight, Full, OutOfShape}
+use Rattle.stepping.specs.Shape.{kindOf}
 use Rattle.recording_meaning.specs.Rust.{Keeps, Tester, Answered, Result, Ok, Err, new, with-entry, on-invoke, on-return, len, linearizable, sequential}
 use Rattle.recording_meaning.specs.RustMaps.{with-notes, without-notes, in-maps}
 use Rattle.recording_meaning.specs.Models.{Model, rows-of, sequentialModel, linearizabilityModel}

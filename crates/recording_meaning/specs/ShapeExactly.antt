@@ -10,33 +10,21 @@ use lib.Dec.{eqb}
 use borrow.Author.Tests.{eqb-false, ne-eqb}
 use native.Mathlib.Omega.{arith}
 use Rattle.history.specs.Lists.{not-both, own-or-other}
-use Rattle.families.specs.Value.{pick}
-use Rattle.families.specs.Sizes.{threads, capacity}
+use Rattle.values.specs.Value.{pick}
+use Rattle.values.specs.Sizes.{threads, capacity}
 use Rattle.families.specs.Refusals.{retBelongs}
 use Rattle.families.specs.Room.{clear-yes}
 use Rattle.families.specs.declared.Kind.{Kind}
 use Rattle.families.specs.declared.Ret.{Ret}
-use Rattle.families.specs.declared.refusal.Check.the-variants.{Clear}
+use Rattle.values.specs.declared.refusal.Check.the-variants.{Clear}
 use Rattle.families.specs.declared.placing.Outcome.{Outcome}
 use Rattle.families.specs.declared.placing.Outcome.the-variants.{Pending, Returned}
-use Rattle.recording.specs.declared.consistency_tester.Operation.{Operation}
-use Rattle.recording.specs.declared.consistency_tester.History.{History}
+use Rattle.stepping.specs.declared.history.Operation.{Operation}
+use Rattle.stepping.specs.declared.history.History.{History}
 use Rattle.recording.specs.declared.linearizability.LinearizabilityTester.{LinearizabilityTester}
-use Rattle.recording.specs.Record.{blankOperation, held, operationAt, isPending}
-use Rattle.recording.specs.Shape.{
-  kindOf,
-  InShape,
-  NotesInShape,
-  noteAt,
-  notable,
-  outcomeFits,
-  operationFits,
-  operationsFit,
-  noneOf,
-  flyingLast,
-  shapeOf,
-  notesShaped,
-}
+use Rattle.stepping.specs.Record.{blankOperation, held, operationAt, isPending}
+use Rattle.stepping.specs.Shape.{kindOf, InShape, NotesInShape, noteAt, notable, outcomeFits, operationFits, operationsFit, noneOf, flyingLast, shapeOf}
+use Rattle.recording.specs.Testers.{notesShaped}
 use Rattle.recording.specs.Testers.{shapedTester}
 use Rattle.recording_meaning.specs.Reading.{Sized}
 use Rattle.recording_meaning.specs.Parts.{pick-left, pick-right, pick-both, OperationParts, operation-parts, operation-fits, Parts, parts-of, of-parts}

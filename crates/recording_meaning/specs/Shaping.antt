@@ -10,16 +10,16 @@ use native.Mathlib.Omega.{arith}
 use Rattle.history.specs.Lists.{not-both}
 use Rattle.history.specs.Rows.{row, Shaped, AllShaped, empty, in-flight, completed-first, operations}
 use Rattle.history.specs.Recorder.{completed as completed-of}
-use Rattle.families.specs.Value.{pick}
-use Rattle.families.specs.Sizes.{threads}
+use Rattle.values.specs.Value.{pick}
+use Rattle.values.specs.Sizes.{threads}
 use Rattle.families.specs.Families.{families}
 use Rattle.families.specs.declared.Kind.{Kind}
 use Rattle.families.specs.declared.placing.Outcome.{Outcome}
 use Rattle.families.specs.declared.placing.Outcome.the-variants.{Pending, Returned}
-use Rattle.recording.specs.declared.consistency_tester.Operation.{Operation}
-use Rattle.recording.specs.declared.consistency_tester.History.{History}
-use Rattle.recording.specs.Record.{held, isPending}
-use Rattle.recording.specs.Shape.{kindOf, doneBy, countDone, operationFits, operationsFit, noneOf, flyingLast}
+use Rattle.stepping.specs.declared.history.Operation.{Operation}
+use Rattle.stepping.specs.declared.history.History.{History}
+use Rattle.stepping.specs.Record.{held, isPending}
+use Rattle.stepping.specs.Shape.{kindOf, doneBy, countDone, operationFits, operationsFit, noneOf, flyingLast}
 use Rattle.recording_meaning.specs.Reading.{Sized, entryOf, returnIn, entries, of-thread, by-thread, rowsOf}
 use Rattle.recording_meaning.specs.Threads.{held-none, held-in}
 use Rattle.recording_meaning.specs.Parts.{pick-left, pick-right, operation-parts, Parts}

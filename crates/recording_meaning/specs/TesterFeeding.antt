@@ -11,18 +11,18 @@ use Rattle.history.specs.Lists.{not-both}
 use Rattle.history.specs.Events.{Event, Events, invoked, returned}
 use Rattle.history.specs.Rows.{Rows, operations}
 use Rattle.history.specs.Recorder.{Feeds, fed, invokes, gives-back, Fed}
-use Rattle.families.specs.Sizes.{threads}
+use Rattle.values.specs.Sizes.{threads}
 use Rattle.families.specs.Families.{families}
 use Rattle.families.specs.declared.Object.{Object}
 use Rattle.families.specs.declared.Op.{Op}
 use Rattle.families.specs.declared.Ret.{Ret}
-use Rattle.families.specs.declared.refusal.Check.{Check}
-use Rattle.recording.specs.declared.consistency_tester.History.{History}
-use Rattle.recording.specs.declared.consistency_tester.Recorded.{Recorded}
-use Rattle.recording.specs.declared.consistency_tester.Recorded.the-variants.{Refused}
-use Rattle.recording.specs.declared.consistency_tester.Reason.{Reason}
-use Rattle.recording.specs.Record.{fresh}
-use Rattle.recording.specs.EventSteps.{isTaken, breaks, sizeOf}
+use Rattle.values.specs.declared.refusal.Check.{Check}
+use Rattle.stepping.specs.declared.history.History.{History}
+use Rattle.stepping.specs.declared.recorded.Recorded.{Recorded}
+use Rattle.stepping.specs.declared.recorded.Recorded.the-variants.{Refused}
+use Rattle.stepping.specs.declared.recorded.Reason.{Reason}
+use Rattle.stepping.specs.Record.{fresh}
+use Rattle.stepping.specs.EventSteps.{isTaken, breaks, sizeOf}
 use Rattle.recording_meaning.specs.Reading.{rowsOf}
 use Rattle.recording_meaning.specs.Shaping.{rows-count}
 use Rattle.recording_meaning.specs.Beginning.{startOf, begun-is, fresh-rows}

@@ -8,13 +8,13 @@ use Rattle.history.specs.Rows.{forget}
 use Rattle.history.specs.Recorder.{notes, no-notes, Fed}
 use Rattle.history.specs.Feeding.{fed-same}
 use Rattle.history.specs.Forgetting.{fed-forget}
-use Rattle.families.specs.Sizes.{threads}
+use Rattle.values.specs.Sizes.{threads}
 use Rattle.families.specs.Families.{families}
 use Rattle.families.specs.declared.Object.{Object}
-use Rattle.recording.specs.declared.consistency_tester.History.{History}
-use Rattle.recording.specs.declared.consistency_tester.Recorded.{Recorded}
-use Rattle.recording.specs.declared.consistency_tester.Step.{Step}
-use Rattle.recording.specs.EventSteps.{invokeOf, returnOf}
+use Rattle.stepping.specs.declared.history.History.{History}
+use Rattle.stepping.specs.declared.recorded.Recorded.{Recorded}
+use Rattle.stepping.specs.declared.step.Step.{Step}
+use Rattle.stepping.specs.EventSteps.{invokeOf, returnOf}
 use Rattle.recording_meaning.specs.Models.{Model, rows-of, sequentialModel, linearizabilityModel}
 use Rattle.recording_meaning.specs.Inputs.{give, feed, drawn, taken}
 use Rattle.recording_meaning.specs.Lawful.{Lawful, sequential-lawful, linearizability-lawful}

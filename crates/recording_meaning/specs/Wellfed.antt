@@ -8,17 +8,17 @@ use native.Mathlib.Omega.{arith}
 use Rattle.history.specs.Events.{Event, Events, invoked, returned}
 use Rattle.history.specs.Rows.{Rows, row}
 use Rattle.history.specs.Recorder.{flying, extend, close, new as put, Feeds, fed, invokes, gives-back, Fed}
-use Rattle.families.specs.Sizes.{threads, capacity}
+use Rattle.values.specs.Sizes.{threads, capacity}
 use Rattle.families.specs.Families.{families}
 use Rattle.families.specs.declared.Kind.{Kind}
 use Rattle.families.specs.declared.Object.{Object}
 use Rattle.families.specs.declared.Op.{Op}
 use Rattle.families.specs.declared.Ret.{Ret}
-use Rattle.recording.specs.declared.consistency_tester.History.{History}
-use Rattle.recording.specs.declared.consistency_tester.Recorded.{Recorded}
-use Rattle.recording.specs.declared.consistency_tester.Recorded.the-variants.{Taken}
-use Rattle.recording.specs.Shape.{kindOf}
-use Rattle.recording.specs.EventSteps.{isTaken}
+use Rattle.stepping.specs.declared.history.History.{History}
+use Rattle.stepping.specs.declared.recorded.Recorded.{Recorded}
+use Rattle.stepping.specs.declared.recorded.Recorded.the-variants.{Taken}
+use Rattle.stepping.specs.Shape.{kindOf}
+use Rattle.stepping.specs.EventSteps.{isTaken}
 use Rattle.recording_meaning.specs.Rowing.{rows-many}
 use Rattle.recording_meaning.specs.Numbers.{opSaid, retSaid, Fine}
 use Rattle.recording_meaning.specs.Models.{Model, rows-of}

@@ -9,13 +9,13 @@ use crate::objects::blank;
 use families::Kind;
 use families::Op;
 use families::Ret;
-use families::coded::Coded;
-use families::coded::Form;
 use families::codes::op_form;
 use families::codes::op_from;
 use families::codes::ret_coded;
 use families::codes::ret_form;
 use families::codes::ret_from;
+use values::coded::Coded;
+use values::coded::Form;
 
 // The one return of the lists that carries a natural number and no value, a length: the object's number, and
 // its own.

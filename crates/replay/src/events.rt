@@ -6,7 +6,7 @@ use crate::fields::narrow;
 use crate::fields::natural;
 use families::Op;
 use families::Ret;
-use families::sizes::THREADS;
+use values::sizes::THREADS;
 
 // The numbers that begin a line with an event.
 pub const INVOKE: u64 = 1;

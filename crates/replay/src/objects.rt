@@ -5,14 +5,14 @@ use crate::fields::narrow;
 use crate::fields::natural;
 use crate::fields::value;
 use families::Object;
-use families::coded::Coded;
-use families::coded::StartForm;
 use families::codes::start_form;
 use families::codes::start_from;
 use families::placing::held_of;
-use families::sizes::FULL;
-use families::sizes::ROOM;
-use families::value::signed_of;
+use values::coded::Coded;
+use values::coded::StartForm;
+use values::sizes::FULL;
+use values::sizes::ROOM;
+use values::value::signed_of;
 
 pub struct Made {
     pub readable: bool,

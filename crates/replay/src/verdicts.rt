@@ -9,7 +9,6 @@ use crate::fields::natural;
 use families::Ret;
 use families::codes::ret_coded;
 use families::no_ret;
-use families::sizes::OPERATIONS;
 use judging::answer::Answer;
 use judging::answer::NOBODY;
 use judging::answer::Placed;
@@ -17,6 +16,7 @@ use judging::answer::number;
 use judging::linearizability;
 use judging::sequential_consistency;
 use testers::Testers;
+use values::sizes::OPERATIONS;
 
 // The numbers of the verdicts in document 01.
 const ORDER: u8 = 0;

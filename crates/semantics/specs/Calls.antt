@@ -1,15 +1,16 @@
 -- What each call on a bare object hands back.
 use mathlib.Core.Bool.{Bool}
-use Rattle.families.specs.Value.{pick}
+use Rattle.values.specs.Value.{pick}
 use Rattle.families.specs.Objects.{object}
 use Rattle.families.specs.Placing.{heldOf, kindOf, answerOf, rightOf, heldAfter, leavesOf, leavesWrong}
-use Rattle.families.specs.Refusals.{inOrder, opBelongs, retBelongs, shapeCheck, roomCheck, stepRoom}
+use Rattle.values.specs.Checks.{inOrder}
+use Rattle.families.specs.Refusals.{opBelongs, retBelongs, shapeCheck, roomCheck, stepRoom}
 use Rattle.families.specs.declared.Kind.{Kind}
 use Rattle.families.specs.declared.Object.{Object}
 use Rattle.families.specs.declared.Op.{Op}
 use Rattle.families.specs.declared.Ret.{Ret}
-use Rattle.families.specs.declared.refusal.Check.{Check}
-use Rattle.families.specs.declared.refusal.Check.the-variants.{Clear, Refused}
+use Rattle.values.specs.declared.refusal.Check.{Check}
+use Rattle.values.specs.declared.refusal.Check.the-variants.{Clear, Refused}
 use Rattle.semantics.specs.declared.Answer.{Answer}
 use Rattle.semantics.specs.declared.Answer.the-variants.{Returned, Refused as ARefused}
 use Rattle.semantics.specs.declared.Invoked.{Invoked}

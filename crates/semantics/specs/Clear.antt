@@ -2,12 +2,13 @@
 use mathlib.Core.Path.{_≡_}
 use mathlib.Core.Logic.{_↔_}
 use Rattle.families.specs.Placing.{heldOf}
-use Rattle.families.specs.Refusals.{inOrder, opBelongs, retBelongs, shapeCheck, roomCheck, stepRoom}
+use Rattle.values.specs.Checks.{inOrder}
+use Rattle.families.specs.Refusals.{opBelongs, retBelongs, shapeCheck, roomCheck, stepRoom}
 use Rattle.families.specs.Room.{both-clear}
 use Rattle.families.specs.declared.Kind.{Kind}
 use Rattle.families.specs.declared.Op.{Op}
 use Rattle.families.specs.declared.Ret.{Ret}
-use Rattle.families.specs.declared.refusal.Check.the-variants.{Clear}
+use Rattle.values.specs.declared.refusal.Check.the-variants.{Clear}
 use Rattle.semantics.specs.Calls.{invokeCheck, stepCheck}
 
 -- an object is in shape

@@ -6,9 +6,9 @@ use Rattle.semantics.specs.Calls.{stepped, stepOf, begunBy, begunOf, the
 use Rattle.families.specs.declared.Object.{Object}
 use Rattle.families.specs.declared.Op.{Op}
 use Rattle.families.specs.declared.Ret.{Ret}
-use Rattle.families.specs.declared.refusal.Refusal.{Refusal}
-use Rattle.families.specs.declared.refusal.Check.{Check}
-use Rattle.families.specs.declared.refusal.Check.the-variants.{Clear, Refused as Out}
+use Rattle.values.specs.declared.refusal.Refusal.{Refusal}
+use Rattle.values.specs.declared.refusal.Check.{Check}
+use Rattle.values.specs.declared.refusal.Check.the-variants.{Clear, Refused as Out}
 use Rattle.semantics.specs.declared.Said.{Said}
 use Rattle.semantics.specs.declared.Said.the-variants.{Yes, No, Refused}
 use Rattle.semantics.specs.declared.Stepped.{Stepped}

@@ -1,7 +1,7 @@
 -- `invoke` does what the abstract object does, and leaves an object in shape.
 use mathlib.Core.Path.{_≡_, ap, _∙_}
 use lib.ListN.{length}
-use Rattle.families.specs.Sizes.{room}
+use Rattle.values.specs.Sizes.{room}
 use Rattle.families.specs.Families.{State, answers, after}
 use Rattle.families.specs.Placing.{heldOf}
 use Rattle.families.specs.Refusals.{opBelongs}
@@ -9,7 +9,7 @@ use Rattle.families.specs.States.{stateOf, kind-held, placing-answers, placing-
 use Rattle.families.specs.Bare.{clear-fits, kept-shape}
 use Rattle.families.specs.declared.Object.{Object}
 use Rattle.families.specs.declared.Op.{Op}
-use Rattle.families.specs.declared.refusal.Check.the-variants.{Clear}
+use Rattle.values.specs.declared.refusal.Check.the-variants.{Clear}
 use Rattle.semantics.specs.Calls.{answerBy, leftBy, invokeOf}
 use Rattle.semantics.specs.Clear.{InShape, InvokeClear, invoke-clear}
 use Rattle.semantics.specs.declared.Answer.the-variants.{Returned}

@@ -4,8 +4,8 @@ use mathlib.Core.Path.{_≡_, refl, sym, ap, _∙_}
 use mathlib.Core.Bool.{Bool, true, false}
 use mathlib.Core.Logic.{_↔_}
 use lib.ListN.{length}
-use Rattle.families.specs.Value.{pick}
-use Rattle.families.specs.Sizes.{room}
+use Rattle.values.specs.Value.{pick}
+use Rattle.values.specs.Sizes.{room}
 use Rattle.families.specs.Families.{answers, right, after}
 use Rattle.families.specs.Placing.{heldOf, heldAfter}
 use Rattle.families.specs.Refusals.{opBelongs, roomCheck, tookRoom, stepRoom}
@@ -17,7 +17,7 @@ use Rattle.families.specs.declared.Kind.{Kind}
 use Rattle.families.specs.declared.Object.{Object}
 use Rattle.families.specs.declared.Op.{Op}
 use Rattle.families.specs.declared.Ret.{Ret}
-use Rattle.families.specs.declared.refusal.Check.the-variants.{Clear}
+use Rattle.values.specs.declared.refusal.Check.the-variants.{Clear}
 use Rattle.semantics.specs.Calls.{rightBy, leftBy, invokeOf, stepOf}
 use Rattle.semantics.specs.Clear.{InvokeClear, StepClear}
 use Rattle.semantics.specs.Invoking.{holds, invoke-answers, invoke-leaves, invoke-leaves-by}

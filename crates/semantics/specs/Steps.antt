@@ -4,16 +4,16 @@ use mathlib.Core.Path.{_≡_, refl, sym, ap, _∙_}
 use mathlib.Core.Bool.{Bool, true, false}
 use mathlib.Core.Logic.{_↔_}
 use native.Mathlib.Omega.{arith}
-use Rattle.families.specs.Value.{pick}
+use Rattle.values.specs.Value.{pick}
 use Rattle.families.specs.Placing.{heldOf, leavesWrong}
 use Rattle.families.specs.Refusals.{retBelongs, roomCheck, tookRoom, stepRoom}
 use Rattle.families.specs.Bare.{answer-belongs, answer-untaken, wrong-room, right-answered}
 use Rattle.families.specs.declared.Object.{Object}
 use Rattle.families.specs.declared.Op.{Op}
 use Rattle.families.specs.declared.Ret.{Ret}
-use Rattle.families.specs.declared.refusal.Refusal.{Refusal}
-use Rattle.families.specs.declared.refusal.Check.{Check}
-use Rattle.families.specs.declared.refusal.Check.the-variants.{Clear, Refused}
+use Rattle.values.specs.declared.refusal.Refusal.{Refusal}
+use Rattle.values.specs.declared.refusal.Check.{Check}
+use Rattle.values.specs.declared.refusal.Check.the-variants.{Clear, Refused}
 use Rattle.semantics.specs.Calls.{invokeCheck, stepCheck, answerBy, rightBy, leftBy, invokeBy, invokeOf, stepped, stepBy, stepOf}
 use Rattle.semantics.specs.Clear.{InShape, InvokeClear, invoke-clear, StepClear, step-clear}
 use Rattle.semantics.specs.Invoking.{invoke-answers-by, invoke-leaves-by, left-in-shape}

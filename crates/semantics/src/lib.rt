@@ -6,11 +6,11 @@ use families::Object;
 use families::Op;
 use families::Ret;
 use families::placing;
-use families::refusal::Check;
-use families::refusal::Refusal;
 use families::refusal::check_shape;
 use refusal::check_invoke;
 use refusal::check_step;
+use values::refusal::Check;
+use values::refusal::Refusal;
 ghost use mathlib.Core.Path.{_≡_};
 ghost use Rattle.semantics.specs.Calls.{answerBy, leftBy, invokeOf, stepOf, begunOf, thenOf};
 

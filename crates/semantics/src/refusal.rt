@@ -3,13 +3,13 @@ use families::Kind;
 use families::Op;
 use families::Ret;
 use families::placing::held_of;
-use families::refusal::Check;
 use families::refusal::check_room;
 use families::refusal::check_shape;
 use families::refusal::check_step_room;
-use families::refusal::in_order;
 use families::refusal::op_belongs;
 use families::refusal::ret_belongs;
+use values::refusal::Check;
+use values::refusal::in_order;
 ghost use mathlib.Core.Path.{_≡_};
 ghost use Rattle.semantics.specs.Calls.{invokeCheck, stepCheck};
 

@@ -7,7 +7,7 @@ use Rattle.recording.specs.declared.linearizability.LinearizabilityTester.{Line
 use Rattle.recording.specs.declared.linearizability.After.{After as LAfter}
 use Rattle.recording.specs.declared.sequential_consistency.SequentialConsistencyTester.{SequentialConsistencyTester}
 use Rattle.recording.specs.declared.sequential_consistency.After.{After as SAfter}
-use Rattle.recording.specs.EventSteps.{numberOf, madeNumberOf}
+use Rattle.stepping.specs.EventSteps.{numberOf, madeNumberOf}
 use Rattle.recording.specs.Testers.{newSequential, sequentialInvoke, sequentialReturn, sequentialInvret, sequentialLen}
 use Rattle.recording.specs.Testers.{newLinearizability, linearizabilityInvoke, linearizabilityReturn, linearizabilityInvret, linearizabilityLen}
 use Rattle.testers.specs.declared.Testers.{Testers}

@@ -2,12 +2,12 @@
 use families::Object;
 use families::Op;
 use families::Ret;
-use recording::consistency_tester::made_number;
-use recording::consistency_tester::number;
 use recording::linearizability;
 use recording::linearizability::LinearizabilityTester;
 use recording::sequential_consistency;
 use recording::sequential_consistency::SequentialConsistencyTester;
+use stepping::recorded::made_number;
+use stepping::recorded::number;
 ghost use mathlib.Core.Path.{_≡_};
 ghost use Rattle.testers.specs.PairedCalls.{joinedOf, recordedOf, newOf, invokeOf, returnOf, invretOf};
 

@@ -3,13 +3,13 @@
 // its value. A return of 0 that may carry nothing carries nothing.
 use families::Kind;
 use families::Object;
-use families::coded::Coded;
 use families::codes::op_from;
 use families::codes::ret_from;
 use families::codes::start_from;
-use families::sizes::ROOM;
 use testers::Answers;
 use testers::Testers;
+use values::coded::Coded;
+use values::sizes::ROOM;
 
 // The objects that are timed, by their numbers.
 pub const REGISTER: u32 = 0;

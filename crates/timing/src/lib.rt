@@ -11,9 +11,9 @@ use families::Op;
 use families::Ret;
 use families::codes::op_from;
 use families::codes::ret_from;
-use recording::consistency_tester::number;
 use recording::linearizability::After;
 use recording::linearizability::LinearizabilityTester;
+use stepping::recorded::number;
 
 // An event is a byte: bit 0 says invoke or return, the next three the thread, the rest a value. The
 // operation is Read, number 1, at 0 and else Write, the return WriteOk at 0 and else ReadOk, number 1.

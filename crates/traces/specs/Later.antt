@@ -6,9 +6,9 @@ use mathlib.Core.List.{List, [], _∷_, map}
 use lib.ListN.{length, replicate}
 use Rattle.history.specs.Events.{Event, Events, invoked, returned}
 use Rattle.families.specs.Families.{families}
-use Rattle.recording.specs.declared.consistency_tester.Recorded.the-variants.{Refused}
-use Rattle.recording.specs.declared.consistency_tester.Reason.the-variants.{AlreadyInvalid}
-use Rattle.recording.specs.EventSteps.{reasonNumber, numberOf, isTaken, breaks}
+use Rattle.stepping.specs.declared.recorded.Recorded.the-variants.{Refused}
+use Rattle.stepping.specs.declared.recorded.Reason.the-variants.{AlreadyInvalid}
+use Rattle.stepping.specs.EventSteps.{reasonNumber, numberOf, isTaken, breaks}
 use Rattle.recording_meaning.specs.Models.{Model}
 use Rattle.recording_meaning.specs.Inputs.{give, feed, drawn}
 use Rattle.recording_meaning.specs.Meaning.{Means}

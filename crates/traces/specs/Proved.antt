@@ -4,46 +4,23 @@ use mathlib.Core.Bool.{true, false}
 use mathlib.Core.List.{[], _++_}
 use lib.ListN.{length, replicate}
 use Rattle.history.specs.Events.{Events}
-use Rattle.families.specs.Value.{zigzag, eqZ}
-use Rattle.families.specs.Coded.{maybeCoded, sameCoded}
-use Rattle.families.specs.Register.{registerAnswer, registerAfter, registerRetCoded}
-use Rattle.families.specs.WriteOnce.{writes, writeAnswer, onceAnswer, onceAfter, onceRetCoded}
-use Rattle.families.specs.Stack.{stackAnswer, stackAfter, stackRetCoded, depthCheck, lowCheck, heldValues}
+use Rattle.values.specs.Value.{zigzag, eqZ}
+use Rattle.values.specs.Coded.{maybeCoded, sameCoded}
+use Rattle.objects.specs.Register.{registerAnswer, registerAfter, registerRetCoded}
+use Rattle.objects.specs.WriteOnce.{writes, writeAnswer, onceAnswer, onceAfter, onceRetCoded}
+use Rattle.objects.specs.Stack.{stackAnswer, stackAfter, stackRetCoded, depthCheck, lowCheck, heldValues}
 use Rattle.families.specs.Families.{families, answers, right, after, sameRet}
 use Rattle.families.specs.Codes.{retCoded}
 use Rattle.families.specs.Family.{familyOf, opFamily, retFamily, familyNumber}
-use Rattle.families.specs.Refusals.{numberOf as refusalNumber, familyCheck, opBelongs, retBelongs, isClear, startCheck, shapeCheck, sizeCheck, inOrder}
+use Rattle.values.specs.Checks.{numberOf as refusalNumber, isClear, inOrder}
+use Rattle.families.specs.Refusals.{familyCheck, opBelongs, retBelongs, startCheck, shapeCheck, sizeCheck}
 use Rattle.families.specs.Objects.{newRegister, newOnce, newStack}
 use Rattle.families.specs.States.{stateOf}
-use Rattle.recording.specs.Record.{fresh, isPending, flyingBy, flyingFrom, findFlying}
-use Rattle.recording.specs.Shape.{
-  doneBy,
-  countDone,
-  notable,
-  allBelow,
-  outcomeFits,
-  operationFits,
-  operationsFit,
-  noneOf,
-  flyingLast,
-  countsRight,
-  shapeOf,
-  notesFit,
-  notesFitFrom,
-  notesShaped,
-}
-use Rattle.recording.specs.EventSteps.{reasonNumber, numberOf, isTaken, breaks, validAfter, begunOf, invokeOf, returnOf, sizeOf}
-use Rattle.recording.specs.Testers.{
-  newSequential,
-  sequentialInvoke,
-  sequentialReturn,
-  sequentialLen,
-  newLinearizability,
-  notesWith,
-  linearizabilityInvoke,
-  linearizabilityReturn,
-  linearizabilityLen,
-}
+use Rattle.stepping.specs.Record.{fresh, isPending, flyingBy, flyingFrom, findFlying}
+use Rattle.stepping.specs.Shape.{doneBy, countDone, notable, allBelow, outcomeFits, operationFits, operationsFit, noneOf, flyingLast, countsRight, shapeOf, notesFit, notesFitFrom}
+use Rattle.recording.specs.Testers.{notesShaped}
+use Rattle.stepping.specs.EventSteps.{reasonNumber, numberOf, isTaken, breaks, validAfter, begunOf, invokeOf, returnOf, sizeOf}
+use Rattle.recording.specs.Testers.{newSequential, sequentialInvoke, sequentialReturn, sequentialLen, newLinearizability, notesWith, linearizabilityInvoke, linearizabilityReturn, linearizabilityLen}
 use Rattle.recording_meaning.specs.Reading.{rowsOf, notesOf}
 use Rattle.recording_meaning.specs.Models.{Model, sequentialModel, linearizabilityModel}
 use Rattle.recording_meaning.specs.Inputs.{feed}

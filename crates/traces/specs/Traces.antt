@@ -7,19 +7,19 @@ use lib.IntN.{pos}
 use Rattle.history.specs.Events.{Events, invoked, returned}
 use Rattle.families.specs.Objects.{zeros, newRegister, newOnce, newStack}
 use Rattle.families.specs.Families.{families}
-use Rattle.families.specs.declared.value.Maybe.the-variants.{Nothing}
+use Rattle.values.specs.declared.value.Maybe.the-variants.{Nothing}
 use Rattle.families.specs.declared.Object.{Object}
 use Rattle.families.specs.declared.Op.{Op}
 use Rattle.families.specs.declared.Op.the-variants.{Register as ORegister, WORegister as OWORegister, Vec as OVec}
 use Rattle.families.specs.declared.Ret.{Ret}
 use Rattle.families.specs.declared.Ret.the-variants.{Register as RRegister, WORegister as RWORegister, Vec as RVec}
-use Rattle.families.specs.declared.register.RegisterOp.the-variants.{Write, Read}
-use Rattle.families.specs.declared.register.RegisterRet.the-variants.{WriteOk, ReadOk}
-use Rattle.families.specs.declared.write_once_register.WORegisterOp.the-variants.{Write as OnceWrite}
-use Rattle.families.specs.declared.write_once_register.WORegisterRet.the-variants.{WriteOk as OnceWriteOk}
-use Rattle.families.specs.declared.vec.VecOp.the-variants.{Push, Pop}
-use Rattle.families.specs.declared.vec.VecRet.the-variants.{PushOk, PopOk}
-use Rattle.recording.specs.EventSteps.{numberOf}
+use Rattle.objects.specs.declared.register.RegisterOp.the-variants.{Write, Read}
+use Rattle.objects.specs.declared.register.RegisterRet.the-variants.{WriteOk, ReadOk}
+use Rattle.objects.specs.declared.write_once_register.WORegisterOp.the-variants.{Write as OnceWrite}
+use Rattle.objects.specs.declared.write_once_register.WORegisterRet.the-variants.{WriteOk as OnceWriteOk}
+use Rattle.objects.specs.declared.vec.VecOp.the-variants.{Push, Pop}
+use Rattle.objects.specs.declared.vec.VecRet.the-variants.{PushOk, PopOk}
+use Rattle.stepping.specs.EventSteps.{numberOf}
 use Rattle.recording_meaning.specs.Models.{Model, sequentialModel, linearizabilityModel}
 use Rattle.recording_meaning.specs.Inputs.{invocations-in, feed, drawn}
 use Rattle.judging.specs.declared.answer.Answer.{Answer}

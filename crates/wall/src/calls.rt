@@ -6,13 +6,13 @@ use crate::events::returns;
 use crate::events::thread_of;
 use families::Kind;
 use families::Object;
-use families::coded::Coded;
 use families::codes::op_from;
 use families::codes::ret_from;
 use families::codes::start_from;
-use families::sizes::ROOM;
 use testers::Answers;
 use testers::Testers;
+use values::coded::Coded;
+use values::sizes::ROOM;
 
 // The objects of the traces, by their numbers: the register at 65, the write-once register that holds nothing, the
 // empty stack.

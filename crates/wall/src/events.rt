@@ -1,6 +1,6 @@
 // The events of the traces, each coded as one number: the thread, what happens, and a value. What happens is told by
 // the families' numbers: that of the operation, or none, that of the return, or none, and whether it has a value.
-use families::coded::Coded;
+use values::coded::Coded;
 
 // In place of a number where nothing is invoked, or nothing returns.
 const NONE: u8 = 255;

@@ -7,8 +7,8 @@ use crate::words::say_value;
 use corpus::linearizability::Loaded;
 use corpus::linearizability::load;
 use families::placing::held_of;
-use families::value::zigzag;
 use host::kilteshva_judge;
+use values::value::zigzag;
 
 // The size of an answer of the host call.
 const ANSWER: usize = 79;

@@ -3,10 +3,10 @@ use crate::telling::say;
 use crate::telling::say_number;
 use crate::words::say_ret;
 use families::codes::ret_coded;
-use families::sizes::OPERATIONS;
 use judging::answer::Answer;
 use judging::answer::Placed;
 use judging::answer::Verdict;
+use values::sizes::OPERATIONS;
 
 fn say_placed(number: u32, placed: Placed) {
     let ret = placed.ret;

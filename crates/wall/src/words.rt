@@ -4,10 +4,10 @@ use crate::calls::WRITE_ONCE;
 use crate::calls::object;
 use crate::telling::say;
 use crate::telling::say_number;
-use families::coded::Coded;
-use families::coded::Form;
 use families::codes::op_form;
 use families::codes::ret_form;
+use values::coded::Coded;
+use values::coded::Form;
 
 // The first, the second or the third.
 fn say_one(which: u32, first: &[u8], second: &[u8], third: &[u8]) {

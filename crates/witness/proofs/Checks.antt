@@ -5,9 +5,9 @@ use mathlib.Core.Bool.{Bool, true, false}
 use mathlib.Core.List.{List}
 use lib.ListN.{length}
 use Rattle.history.specs.Space.{met}
-use Rattle.families.specs.Value.{pick}
-use Rattle.families.specs.Sizes.{threads, room}
-use Rattle.recording.specs.Shape.{shapeOf}
+use Rattle.values.specs.Value.{pick}
+use Rattle.values.specs.Sizes.{threads, room}
+use Rattle.stepping.specs.Shape.{shapeOf}
 use Rattle.recording_meaning.specs.Reading.{Sized}
 use Rattle.recording_meaning.specs.Models.{Model}
 use Rattle.witness.specs.Checking.{checkOf}

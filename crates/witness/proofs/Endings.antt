@@ -14,9 +14,9 @@ use Rattle.history.specs.Rows.{Entry, row, Shaped, empty, in-flight, completed-
 use Rattle.history.specs.Recorder.{completed as completed-of}
 use Rattle.history.specs.Space.{met, only-pending, all-placed}
 use Rattle.history.specs.Progress.{met-of, of-met, placed-of, of-placed}
-use Rattle.families.specs.Sizes.{threads}
+use Rattle.values.specs.Sizes.{threads}
 use Rattle.families.specs.Families.{families}
-use Rattle.recording.specs.declared.consistency_tester.History.{History}
+use Rattle.stepping.specs.declared.history.History.{History}
 use Rattle.recording_meaning.specs.Reading.{rowsOf, notesOf}
 use Rattle.recording_meaning.specs.Rowing.{rows-many}
 use Rattle.recording_meaning.specs.Parts.{below-each, each-below, Parts}

@@ -11,12 +11,12 @@ use lib.Dec.{eqb}
 use Rattle.history.specs.Rows.{Entry, row}
 use Rattle.history.specs.Space.{next}
 use Rattle.history.specs.Progress.{next-row}
-use Rattle.families.specs.Value.{pick}
-use Rattle.families.specs.Sizes.{threads, capacity}
+use Rattle.values.specs.Value.{pick}
+use Rattle.values.specs.Sizes.{threads, capacity}
 use Rattle.families.specs.Families.{families}
-use Rattle.recording.specs.declared.consistency_tester.Operation.{Operation}
-use Rattle.recording.specs.declared.consistency_tester.History.{History}
-use Rattle.recording.specs.Record.{blankOperation, held, operationAt}
+use Rattle.stepping.specs.declared.history.Operation.{Operation}
+use Rattle.stepping.specs.declared.history.History.{History}
+use Rattle.stepping.specs.Record.{blankOperation, held, operationAt}
 use Rattle.recording_meaning.specs.Reading.{Sized, entryOf, entries, of-thread, rowsOf}
 use Rattle.recording_meaning.specs.Rowing.{rows-many, row-is}
 use Rattle.witness.specs.WordsPlayed.{placeOf}

@@ -9,11 +9,11 @@ use lib.ListN.{length, drop}
 use lib.Seq.{length-take-le}
 use lib.Dec.{eqb}
 use borrow.Author.Tests.{eq-eqb, ne-eqb}
-use Rattle.families.specs.Value.{pick}
-use Rattle.recording.specs.declared.consistency_tester.Operation.{Operation}
-use Rattle.recording.specs.declared.consistency_tester.History.{History}
-use Rattle.recording.specs.Record.{blankOperation, held, operationAt}
-use Rattle.recording.specs.RecordLaws.{held-cons, held-end}
+use Rattle.values.specs.Value.{pick}
+use Rattle.stepping.specs.declared.history.Operation.{Operation}
+use Rattle.stepping.specs.declared.history.History.{History}
+use Rattle.stepping.specs.Record.{blankOperation, held, operationAt}
+use Rattle.stepping.specs.RecordLaws.{held-cons, held-end}
 use Rattle.witness.specs.WordsPlayed.{placeOf}
 
 -- what is left to look at gives the place, counted from i on

@@ -6,7 +6,7 @@ use mathlib.Core.List.{List, [], _∷_}
 use native.Mathlib.Omega.{arith}
 use lib.ListN.{length, getD, drop, length-drop, drop-of-length-le}
 use lib.Seq.{drop-cons}
-use Rattle.recording.specs.declared.consistency_tester.History.{History}
+use Rattle.stepping.specs.declared.history.History.{History}
 use Rattle.witness.specs.declared.replay.Stage.{Stage}
 use Rattle.witness.specs.Words.{placeWords}
 use Rattle.witness.specs.WordsPlayed.{reachesOf, stageAfter, playFrom, begun, playOf}

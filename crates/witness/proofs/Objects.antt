@@ -9,14 +9,14 @@ use lib.ListN.{length}
 use Rattle.history.specs.Lists.{not-both}
 use Rattle.history.specs.Recorder.{pending}
 use Rattle.history.specs.Space.{gives}
-use Rattle.families.specs.Sizes.{room}
+use Rattle.values.specs.Sizes.{room}
 use Rattle.families.specs.Families.{families, right}
 use Rattle.families.specs.Refusals.{opBelongs}
 use Rattle.families.specs.declared.Object.{Object}
 use Rattle.families.specs.declared.Op.{Op}
 use Rattle.families.specs.declared.placing.Outcome.{Outcome}
 use Rattle.families.specs.declared.placing.Outcome.the-variants.{Pending, Returned}
-use Rattle.families.specs.declared.refusal.Check.the-variants.{Clear}
+use Rattle.values.specs.declared.refusal.Check.the-variants.{Clear}
 use Rattle.semantics.specs.Calls.{leftBy, stepOf}
 use Rattle.semantics.specs.Invoking.{holds}
 use Rattle.semantics.specs.Roomy.{RoomFor, invoke-returns, invoke-left, step-exactly, step-left}

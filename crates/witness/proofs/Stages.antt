@@ -16,22 +16,22 @@ use Rattle.history.specs.Space.{Node, next, met, gives, stepped, placing, tryin
 use Rattle.history.specs.Moves.{falls, plays-move}
 use Rattle.history.specs.Left.{spent}
 use Rattle.history.specs.Attempts.{size-root}
-use Rattle.families.specs.Value.{pick}
-use Rattle.families.specs.Sizes.{threads, capacity, room}
+use Rattle.values.specs.Value.{pick}
+use Rattle.values.specs.Sizes.{threads, capacity, room}
 use Rattle.families.specs.Families.{families}
 use Rattle.semantics.specs.Calls.{leftBy}
 use Rattle.families.specs.Placing.{heldOf}
 use Rattle.families.specs.Refusals.{opBelongs}
 use Rattle.families.specs.Room.{start-room, room-fewer}
 use Rattle.families.specs.States.{Alike, alike-op}
-use Rattle.families.specs.declared.refusal.Check.the-variants.{Clear}
+use Rattle.values.specs.declared.refusal.Check.the-variants.{Clear}
 use Rattle.semantics.specs.Invoking.{holds}
 use Rattle.semantics.specs.Roomy.{RoomFor, left-holds, left-full, left-alike, left-roomy}
 use Rattle.families.specs.declared.Ret.{Ret}
-use Rattle.recording.specs.declared.consistency_tester.Operation.{Operation}
-use Rattle.recording.specs.declared.consistency_tester.History.{History}
-use Rattle.recording.specs.Record.{held, operationAt}
-use Rattle.recording.specs.Shape.{shapeOf}
+use Rattle.stepping.specs.declared.history.Operation.{Operation}
+use Rattle.stepping.specs.declared.history.History.{History}
+use Rattle.stepping.specs.Record.{held, operationAt}
+use Rattle.stepping.specs.Shape.{shapeOf}
 use Rattle.recording_meaning.specs.Reading.{Sized, entryOf, rowsOf}
 use Rattle.recording_meaning.specs.Rowing.{rows-many}
 use Rattle.recording_meaning.specs.Parts.{parts-of}

@@ -7,7 +7,7 @@ use lib.Dec.{eqb}
 use Rattle.history.specs.Rows.{Entry, Rows}
 use Rattle.history.specs.Recorder.{pending}
 use Rattle.history.specs.Space.{Node, next, met, all-placed, gives, stepped, root}
-use Rattle.families.specs.Value.{pick}
+use Rattle.values.specs.Value.{pick}
 use Rattle.families.specs.Families.{families}
 use Rattle.semantics.specs.Invoking.{holds}
 use Rattle.families.specs.declared.Ret.{Ret}

@@ -4,8 +4,8 @@ use mathlib.Core.Bool.{Bool, true, false}
 use mathlib.Core.List.{List, [], _∷_}
 use lib.ListN.{getD, set, replicate}
 use lib.Dec.{eqb, leb, ltb}
-use Rattle.families.specs.Value.{pick}
-use Rattle.families.specs.Sizes.{threads}
+use Rattle.values.specs.Value.{pick}
+use Rattle.values.specs.Sizes.{threads}
 use Rattle.semantics.specs.Calls.{invokeOf, stepOf}
 use Rattle.families.specs.declared.Object.{Object}
 use Rattle.families.specs.declared.Op.{Op}
@@ -15,10 +15,10 @@ use Rattle.semantics.specs.declared.Said.{Said}
 use Rattle.semantics.specs.declared.Said.the-variants.{Yes, No, Refused as SRefused}
 use Rattle.families.specs.declared.placing.Outcome.{Outcome}
 use Rattle.families.specs.declared.placing.Outcome.the-variants.{Pending, Returned}
-use Rattle.recording.specs.declared.consistency_tester.Operation.{Operation}
-use Rattle.recording.specs.declared.consistency_tester.History.{History}
-use Rattle.recording.specs.Record.{held, operationAt}
-use Rattle.recording.specs.Shape.{allBelow}
+use Rattle.stepping.specs.declared.history.Operation.{Operation}
+use Rattle.stepping.specs.declared.history.History.{History}
+use Rattle.stepping.specs.Record.{held, operationAt}
+use Rattle.stepping.specs.Shape.{allBelow}
 use Rattle.witness.specs.declared.replay.Settled.{Settled}
 use Rattle.witness.specs.declared.replay.Stage.{Stage}
 use Rattle.witness.specs.Words.{wordsOf}

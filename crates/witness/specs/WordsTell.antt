@@ -3,15 +3,15 @@ use Prim.Native.Nat.{ℕ}
 use mathlib.Core.Path.{_≡_, sym, ap, _∙_}
 use mathlib.Core.List.{List, _∷_}
 use lib.ListN.{getD}
-use Rattle.families.specs.Coded.{coded}
+use Rattle.values.specs.Coded.{coded}
 use Rattle.families.specs.Codes.{retCoded}
 use Rattle.families.specs.Refusals.{retBelongs}
 use Rattle.families.specs.Room.{own-ret}
 use Rattle.families.specs.CodesTell.{numbers-tell}
 use Rattle.families.specs.declared.Kind.{Kind}
 use Rattle.families.specs.declared.Ret.{Ret}
-use Rattle.families.specs.declared.coded.Coded.{Coded}
-use Rattle.families.specs.declared.refusal.Check.the-variants.{Clear}
+use Rattle.values.specs.declared.coded.Coded.{Coded}
+use Rattle.values.specs.declared.refusal.Check.the-variants.{Clear}
 use Rattle.witness.specs.Words.{wordsOf}
 
 -- the numbers that three words are

@@ -4,19 +4,19 @@ use crate::words::describes;
 use families::Object;
 use families::Op;
 use families::placing::Outcome;
-use families::sizes::THREADS;
-use recording::consistency_tester::History;
 use recording::linearizability::NOTES;
 use semantics::Answer;
 use semantics::Said;
 use semantics::invoke;
 use semantics::is_valid_step;
+use stepping::history::History;
+use values::sizes::THREADS;
 ghost use Prim.Native.Nat.{_+_, _≤_};
 ghost use mathlib.Core.Path.{_≡_};
 ghost use mathlib.Core.List.{[], _∷_};
 ghost use lib.ListN.{length};
-ghost use Rattle.families.specs.Sizes.{threads, capacity};
-ghost use Rattle.recording.specs.Record.{held};
+ghost use Rattle.values.specs.Sizes.{threads, capacity};
+ghost use Rattle.stepping.specs.Record.{held};
 ghost use Rattle.witness.specs.WordsPlayed.{placeOf, reachesOf, answeredOf, saidYes, settleOf, stageAfter, playOf};
 
 // What became of an operation: it may stand there, it is completed, and the object that it leaves.

@@ -4,7 +4,7 @@ use mathlib.Core.Path.{ap}
 use native.Mathlib.Omega.{arith}
 use lib.ListN.{length, drop}
 use borrow.Author.Needs.{needs}
-use Rattle.families.specs.Sizes.{threads, capacity}
+use Rattle.values.specs.Sizes.{threads, capacity}
 use Rattle.recording.specs.Testers.{linearizability}
 use Rattle.recording_meaning.specs.Models.{linearizabilityModel}
 use Rattle.corpus.specs.Load.{loadFrom}

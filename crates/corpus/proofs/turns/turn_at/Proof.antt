@@ -6,7 +6,7 @@ use lib.ListN.{drop}
 use borrow.Author.Needs.{needs}
 use Rattle.history.specs.Events.{Event}
 use Rattle.families.specs.Families.{families}
-use Rattle.format.specs.Reader.{Read, got}
+use Rattle.numbers.specs.Reader.{Read, got}
 use Rattle.format.specs.Format.{event}
 use Rattle.format.specs.ReadAnswers.{heard, asEvent}
 use Rattle.format.specs.Fields.{tail}

@@ -1,6 +1,6 @@
 -- The object is built as its definition builds it.
 use Rattle.families.specs.Objects.{newRegister}
-use Rattle.families.proofs.Laws.{back}
+use Rattle.values.specs.Bits.{back}
 use Rattle.families.proofs.Object.register.Statement.{statement}
 use Rattle.families.proofs.Object.register.Tie as tie
 

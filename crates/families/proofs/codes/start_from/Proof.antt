@@ -2,7 +2,7 @@
 use borrow.Author.Tests.{eq-eqb, ne-eqb}
 use borrow.Author.Needs.{needs}
 use Rattle.families.specs.Codes.{startFrom}
-use Rattle.families.proofs.Laws.{back}
+use Rattle.values.specs.Bits.{back}
 use Rattle.families.proofs.codes.start_from.Statement.{statement}
 use Rattle.families.proofs.codes.start_from.Tie as tie
 

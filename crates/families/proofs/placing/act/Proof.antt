@@ -1,8 +1,8 @@
 -- The operation tells the family; only a stack changes an item.
 use borrow.Author.Needs.{needs}
 use Rattle.families.specs.Placing.{actedOf, leavesOf, heldAfter, changes}
-use Rattle.families.specs.Stack.{itemAt}
-use Rattle.families.proofs.Laws.{back}
+use Rattle.objects.specs.Stack.{itemAt, stackActed}
+use Rattle.values.specs.Bits.{back}
 use Rattle.families.proofs.placing.act.Statement.{statement}
 use Rattle.families.proofs.placing.act.Tie as tie
 
@@ -39,7 +39,7 @@ unfolding itemAt actedOf leavesOf heldAfter changes
 returns-2 c = (simp (c .held-once .ensures, c .before .after2 .ensures, c .before .before .once-of .ensures, c .before .before .before .before .op2 .given .1), simp (c .before .before .before .before .op2 .given .1))
 
 returns-3 : tie.Need-returns-3
-unfolding leavesOf
+unfolding stackActed itemAt actedOf leavesOf heldAfter changes
 returns-3 c = (simp (c .act .ensures .0, c .before .before .before .op3 .given .1), simp (c .act .ensures .1, c .before .before .before .op3 .given .1))
 
 pub act-spec : {M : Type 1} → statement M

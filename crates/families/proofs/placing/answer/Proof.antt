@@ -1,7 +1,7 @@
 -- The operation tells the family, which answers from what it holds.
 use borrow.Author.Needs.{needs}
 use Rattle.families.specs.Placing.{answerOf}
-use Rattle.families.proofs.Laws.{back}
+use Rattle.values.specs.Bits.{back}
 use Rattle.families.proofs.placing.answer.Statement.{statement}
 use Rattle.families.proofs.placing.answer.Tie as tie
 

@@ -1,7 +1,7 @@
 -- Each family has its part of the two words.
 use borrow.Author.Needs.{needs}
 use Rattle.families.specs.Placing.{heldOf}
-use Rattle.families.proofs.Laws.{back}
+use Rattle.values.specs.Bits.{back}
 use Rattle.families.proofs.placing.held_of.Statement.{statement}
 use Rattle.families.proofs.placing.held_of.Tie as tie
 

@@ -1,7 +1,7 @@
 -- Height 0 says nothing and height 1 a value.
 use borrow.Author.Needs.{needs}
 use Rattle.families.specs.Placing.{heldOnce}
-use Rattle.families.proofs.Laws.{back}
+use Rattle.values.specs.Bits.{back}
 use Rattle.families.proofs.placing.held_once.Statement.{statement}
 use Rattle.families.proofs.placing.held_once.Tie as tie
 

@@ -1,7 +1,7 @@
 -- The family stays, and the two words say the rest.
 use borrow.Author.Needs.{needs}
 use Rattle.families.specs.Placing.{kindOf}
-use Rattle.families.proofs.Laws.{back}
+use Rattle.values.specs.Bits.{back}
 use Rattle.families.proofs.placing.kind_of.Statement.{statement}
 use Rattle.families.proofs.placing.kind_of.Tie as tie
 

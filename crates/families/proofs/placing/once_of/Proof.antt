@@ -1,7 +1,7 @@
 -- Height 0 says nothing, and any other a value.
 use borrow.Author.Tests.{eq-eqb, ne-eqb}
 use Rattle.families.specs.Placing.{onceOf}
-use Rattle.families.proofs.Laws.{back}
+use Rattle.values.specs.Bits.{back}
 use Rattle.families.proofs.placing.once_of.Statement.{statement}
 use Rattle.families.proofs.placing.once_of.Tie as tie
 

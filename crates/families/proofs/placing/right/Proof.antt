@@ -6,7 +6,8 @@ use Rattle.families.specs.Family.{familyNumber, retFamily}
 use Rattle.families.specs.Codes.{retCoded}
 use Rattle.families.specs.Families.{sameRet}
 use Rattle.families.specs.Placing.{rightOf, answerOf}
-use Rattle.families.proofs.Laws.{back, other-family}
+use Rattle.values.specs.Bits.{back}
+use Rattle.families.proofs.Laws.{other-family}
 use Rattle.families.proofs.placing.right.Statement.{statement}
 use Rattle.families.proofs.placing.right.Tie as tie
 
@@ -42,7 +43,7 @@ right-requires-3 c κs = search needs
 
 returns : tie.Need-returns
 unfolding rightOf answerOf sameRet familyNumber retFamily retCoded
-returns c = simp (c .right .ensures, c .before .before .before .ret .given .1, c .before .before .before .before .before .before .op .given .1, back, c .before .struct-told .given .0 .1, c .before .before .known-told2 .given .0 .1, c .before .before .before .before .before .known-told .given .0 .1)
+returns c = simp (c .right .ensures, c .before .before .before .ret .given .1, c .before .before .before .before .before .before .op .given .1, back, c .before .struct-told .given .0 .1)
 
 returns-2 : tie.Need-returns-2
 unfolding rightOf answerOf familyNumber retFamily
@@ -50,7 +51,7 @@ returns-2 c = simp (c .before .before .op .given .1) (other-family _ _ (1 ∷ 2 
 
 returns-3 : tie.Need-returns-3
 unfolding rightOf answerOf sameRet familyNumber retFamily retCoded
-returns-3 c = simp (c .right2 .ensures, c .before .once-of .ensures, c .before .before .before .ret2 .given .1, c .before .before .before .before .before .before .op2 .given .1, back, c .before .before .known-told4 .given .0 .1, c .before .before .before .before .before .known-told3 .given .0 .1)
+returns-3 c = simp (c .right2 .ensures, c .before .once-of .ensures, c .before .before .before .ret2 .given .1, c .before .before .before .before .before .before .op2 .given .1)
 
 returns-4 : tie.Need-returns-4
 unfolding rightOf answerOf familyNumber retFamily
@@ -58,7 +59,7 @@ returns-4 c = simp (c .before .before .op2 .given .1) (other-family _ _ (0 ∷ 2
 
 returns-5 : tie.Need-returns-5
 unfolding rightOf answerOf sameRet familyNumber retFamily retCoded
-returns-5 c = simp (c .right3 .ensures, c .before .before .ret3 .given .1, c .before .before .before .before .before .op3 .given .1, back, c .before .known-told6 .given .0 .1, c .before .before .before .before .known-told5 .given .0 .1)
+returns-5 c = simp (c .right3 .ensures, c .before .before .ret3 .given .1, c .before .before .before .before .before .op3 .given .1)
 
 returns-6 : tie.Need-returns-6
 unfolding rightOf answerOf familyNumber retFamily

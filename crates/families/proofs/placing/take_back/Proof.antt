@@ -2,7 +2,7 @@
 use borrow.Author.Needs.{needs}
 use borrow.Author.Tests.{le-ltb, lt-ltb}
 use Rattle.families.specs.Placing.{backOf}
-use Rattle.families.proofs.Laws.{back}
+use Rattle.values.specs.Bits.{back}
 use Rattle.families.proofs.placing.take_back.Statement.{statement}
 use Rattle.families.proofs.placing.take_back.Tie as tie
 

@@ -2,8 +2,9 @@
 use mathlib.Core.Path.{sym, ap}
 use borrow.Author.Needs.{needs}
 use borrow.Author.Tests.{eq-eqb, ne-eqb}
-use Rattle.format.specs.Reader.{from}
-use Rattle.format.specs.Format.{number, operation, answer, eventOf, event}
+use Rattle.numbers.specs.Reader.{from}
+use Rattle.numbers.specs.Number.{number}
+use Rattle.format.specs.Format.{operation, answer, eventOf, event}
 use Rattle.format.specs.ReadAnswers.{asEvent}
 use Rattle.format.specs.Taking.{number-field, first-in}
 use Rattle.format.specs.Fields.{first-got, first-refused, then-refused, made-of}

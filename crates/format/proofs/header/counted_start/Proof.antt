@@ -4,8 +4,9 @@ use mathlib.Core.Path.{_≡_, sym, ap, _∙_}
 use mathlib.Core.List.{List}
 use borrow.Author.Needs.{needs}
 use borrow.Author.Tests.{lt-ltb, le-ltb}
-use Rattle.format.specs.Reader.{got, from}
-use Rattle.format.specs.Format.{number, counted, countedStart}
+use Rattle.numbers.specs.Reader.{got, from}
+use Rattle.numbers.specs.Number.{number}
+use Rattle.format.specs.Format.{counted, countedStart}
 use Rattle.format.specs.ReadAnswers.{asHeader}
 use Rattle.format.specs.Taking.{number-field, next-in}
 use Rattle.format.specs.Fields.{from-refuse, then-got, then-refused}

@@ -3,9 +3,10 @@ use Prim.Native.Nat.{ℕ}
 use mathlib.Core.Path.{_≡_, sym, ap, _∙_}
 use mathlib.Core.List.{List}
 use borrow.Author.Needs.{needs}
-use Rattle.families.specs.declared.coded.StartForm.{StartForm}
-use Rattle.format.specs.Reader.{got, from}
-use Rattle.format.specs.Format.{number, startBy, object, start}
+use Rattle.values.specs.declared.coded.StartForm.{StartForm}
+use Rattle.numbers.specs.Reader.{got, from}
+use Rattle.numbers.specs.Number.{number}
+use Rattle.format.specs.Format.{startBy, object, start}
 use Rattle.format.specs.ReadAnswers.{asHeader}
 use Rattle.format.specs.Taking.{number-field, next-in}
 use Rattle.format.specs.Fields.{then-got, then-refused}

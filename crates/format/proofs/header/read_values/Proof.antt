@@ -5,11 +5,12 @@ use native.Mathlib.Omega.{arith}
 use lib.IntN.{ℤ}
 use lib.ListN.{length}
 use borrow.Author.Needs.{needs}
-use Rattle.families.specs.Coded.{coded}
+use Rattle.values.specs.Coded.{coded}
 use Rattle.families.specs.Codes.{startFrom}
 use Rattle.families.specs.Objects.{zeros}
-use Rattle.format.specs.Reader.{got, from}
-use Rattle.format.specs.Format.{number, valuesFrom, values}
+use Rattle.numbers.specs.Reader.{got, from}
+use Rattle.numbers.specs.Number.{number}
+use Rattle.format.specs.Format.{valuesFrom, values}
 use Rattle.format.specs.ReadAnswers.{asHeader}
 use Rattle.format.specs.Taking.{number-field, next-in}
 use Rattle.format.specs.Fields.{then-refused, made-of, value-got, value-refused}

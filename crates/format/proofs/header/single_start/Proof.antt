@@ -3,7 +3,7 @@ use mathlib.Core.Path.{sym, ap, _∙_}
 use borrow.Author.Needs.{needs}
 use Rattle.families.specs.Codes.{startFrom}
 use Rattle.families.specs.Objects.{zeros}
-use Rattle.format.specs.Reader.{from}
+use Rattle.numbers.specs.Reader.{from}
 use Rattle.format.specs.Format.{payload, singleStart}
 use Rattle.format.specs.ReadAnswers.{asHeader}
 use Rattle.format.specs.Fields.{then-refused, made-of}

@@ -4,8 +4,9 @@ use mathlib.Core.Path.{_≡_, sym, ap}
 use mathlib.Core.List.{List}
 use borrow.Author.Needs.{needs}
 use borrow.Author.Tests.{eq-eqb, ne-eqb}
-use Rattle.format.specs.Reader.{got, from}
-use Rattle.format.specs.Format.{number, flagged, maybe}
+use Rattle.numbers.specs.Reader.{got, from}
+use Rattle.numbers.specs.Number.{number}
+use Rattle.format.specs.Format.{flagged, maybe}
 use Rattle.format.specs.ReadAnswers.{asPayload}
 use Rattle.format.specs.Taking.{number-field, next-in}
 use Rattle.format.specs.Fields.{from-give, from-refuse, then-got, then-refused}

@@ -1,8 +1,9 @@
 -- What is read is one number, and nothing else is made of it than the word.
 use mathlib.Core.Path.{sym, ap}
 use borrow.Author.Needs.{needs}
-use Rattle.format.specs.Reader.{from}
-use Rattle.format.specs.Format.{number, single}
+use Rattle.numbers.specs.Reader.{from}
+use Rattle.numbers.specs.Number.{number}
+use Rattle.format.specs.Format.{single}
 use Rattle.format.specs.ReadAnswers.{asPayload}
 use Rattle.format.specs.Fields.{then-refused, made-of}
 use Rattle.format.specs.Answered.{number-got, number-refused}

@@ -5,9 +5,10 @@ use mathlib.Core.List.{List}
 use borrow.Author.Needs.{needs}
 use Rattle.families.specs.Family.{Family, familyOf}
 use Rattle.families.specs.Codes.{retForm, retFrom}
-use Rattle.families.specs.declared.coded.Form.{Form}
-use Rattle.format.specs.Reader.{got, from}
-use Rattle.format.specs.Format.{number, payload, answerOf, answer}
+use Rattle.values.specs.declared.coded.Form.{Form}
+use Rattle.numbers.specs.Reader.{got, from}
+use Rattle.numbers.specs.Number.{number}
+use Rattle.format.specs.Format.{payload, answerOf, answer}
 use Rattle.format.specs.ReadAnswers.{asPayload, asRet}
 use Rattle.format.specs.Taking.{number-field, next-in}
 use Rattle.format.specs.Fields.{then-got, then-refused, made-of}

@@ -2,7 +2,7 @@
 use mathlib.Core.Path.{_≡_}
 use lib.ListN.{length}
 use borrow.Author.Needs.{needs}
-use Rattle.families.specs.Sizes.{capacity}
+use Rattle.values.specs.Sizes.{capacity}
 use Rattle.host.proofs.Laying.{laid}
 use Rattle.host.proofs.bytes.lay.Statement.{statement}
 use Rattle.host.proofs.bytes.lay.Tie as tie

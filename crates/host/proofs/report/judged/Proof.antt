@@ -1,8 +1,8 @@
 -- What the judge answers is told field by field.
 use native.Mathlib.Omega.{arith}
 use borrow.Author.Needs.{needs}
-use Rattle.families.specs.Sizes.{capacity}
-use Rattle.recording.specs.RecordLaws.{unmapped}
+use Rattle.values.specs.Sizes.{capacity}
+use Rattle.stepping.specs.RecordLaws.{unmapped}
 use Rattle.host.specs.Call.{judgedReport}
 use Rattle.host.proofs.report.judged.Statement.{statement}
 use Rattle.host.proofs.report.judged.Tie as tie

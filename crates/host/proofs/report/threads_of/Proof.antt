@@ -3,7 +3,7 @@ use Prim.Native.Nat.{_-_}
 use mathlib.Core.Path.{refl}
 use native.Mathlib.Omega.{arith}
 use borrow.Author.Needs.{needs}
-use Rattle.families.specs.Sizes.{capacity}
+use Rattle.values.specs.Sizes.{capacity}
 use Rattle.host.proofs.Threading.{Filled, filled-more, filled-end}
 use Rattle.host.proofs.report.threads_of.Statement.{statement}
 use Rattle.host.proofs.report.threads_of.Tie as tie

@@ -6,7 +6,7 @@ use mir.Syntax.{w8}
 use mir.Val.{Fits}
 use native.Mathlib.Omega.{arith}
 use borrow.Author.Needs.{needs}
-use Rattle.families.specs.Sizes.{threads}
+use Rattle.values.specs.Sizes.{threads}
 use Rattle.judging.specs.Places.{sumOf}
 use Rattle.judging.proofs.Indexing.{sum-more, sum-end}
 use Rattle.judging.proofs.index.completed.Statement.{statement}

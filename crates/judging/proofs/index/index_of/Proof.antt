@@ -4,8 +4,8 @@ use mathlib.Core.Path.{refl}
 use lib.ListN.{replicate}
 use native.Mathlib.Omega.{arith}
 use borrow.Author.Needs.{needs}
-use Rattle.families.specs.Sizes.{threads, capacity}
-use Rattle.recording.specs.RecordLaws.{unmapped}
+use Rattle.values.specs.Sizes.{threads, capacity}
+use Rattle.stepping.specs.RecordLaws.{unmapped}
 use Rattle.recording_meaning.specs.Reading.{Sized}
 use Rattle.recording_meaning.specs.ShapeExactly.{shape-exactly}
 use Rattle.judging.proofs.Indexing.{Built, built-start, own-low, k-few, slot-fits, built-more, built-end}

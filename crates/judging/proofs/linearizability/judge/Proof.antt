@@ -3,7 +3,8 @@ use mathlib.Core.Path.{refl, sym, _∙_}
 use mathlib.Core.Logic.{⊎-elim}
 use mathlib.Core.Bool.{true, false}
 use borrow.Author.Needs.{needs}
-use Rattle.recording.specs.Shape.{shapeOf, notesShaped}
+use Rattle.stepping.specs.Shape.{shapeOf}
+use Rattle.recording.specs.Testers.{notesShaped}
 use Rattle.recording_meaning.specs.Parts.{pick-right}
 use Rattle.recording_meaning.specs.Models.{linearizabilityModel}
 use Rattle.judging.proofs.Answering.{judge-by}

@@ -5,8 +5,8 @@ use lib.ListN.{getD}
 use native.Mathlib.Omega.{arith}
 use borrow.Author.Needs.{needs}
 use borrow.Author.Count.{below-more}
-use Rattle.families.specs.Sizes.{threads}
-use Rattle.recording.specs.Shape.{noteAt}
+use Rattle.values.specs.Sizes.{threads}
+use Rattle.stepping.specs.Shape.{noteAt}
 use Rattle.judging.proofs.Noting.{notes-met, note-unmet}
 use Rattle.judging.proofs.search.allowed.Statement.{statement}
 use Rattle.judging.proofs.search.allowed.Tie as tie

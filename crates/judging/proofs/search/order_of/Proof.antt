@@ -4,7 +4,7 @@ use mathlib.Core.Path.{_≡_}
 use lib.ListN.{length}
 use native.Mathlib.Omega.{arith}
 use borrow.Author.Needs.{needs}
-use Rattle.families.specs.Sizes.{capacity}
+use Rattle.values.specs.Sizes.{capacity}
 use Rattle.recording_meaning.specs.Parts.{parts-of}
 use Rattle.judging.specs.Playing.{situation}
 use Rattle.judging.proofs.Replaying.{Replaying, replay-start, own-low, p-few, slot-fits, at-low, replay-more, replay-end}

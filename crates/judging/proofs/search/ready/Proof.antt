@@ -4,7 +4,7 @@ use lib.ListN.{getD}
 use native.Mathlib.Omega.{arith}
 use borrow.Author.Needs.{needs}
 use borrow.Author.Count.{below-more}
-use Rattle.families.specs.Sizes.{threads}
+use Rattle.values.specs.Sizes.{threads}
 use Rattle.judging.proofs.search.ready.Statement.{statement}
 use Rattle.judging.proofs.search.ready.Tie as tie
 

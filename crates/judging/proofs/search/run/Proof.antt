@@ -4,7 +4,7 @@ use Prim.Native.Nat.{_+_, _*_, _-_}
 use mathlib.Core.Path.{_≡_, refl, sym, _∙_}
 use lib.ListN.{length, length-map}
 use native.Mathlib.Omega.{arith}
-use Rattle.families.specs.Sizes.{room}
+use Rattle.values.specs.Sizes.{room}
 use Rattle.recording_meaning.specs.Reading.{Sized, notesOf}
 use Rattle.judging.specs.Playing.{situation}
 use Rattle.judging.specs.SearchRunning.{Running, running-start, fits, next-small, depth-small, within, found, exhausted, progress-small, slot-at, here-small, used, turn-early, turn-wrong}

@@ -2,7 +2,7 @@
 use mathlib.Core.Path.{_≡_, refl, ap, _∙_}
 use lib.ListN.{length}
 use borrow.Author.Needs.{needs}
-use Rattle.families.specs.Sizes.{capacity}
+use Rattle.values.specs.Sizes.{capacity}
 use Rattle.recording_meaning.specs.Reading.{notesOf}
 use Rattle.judging.specs.Answers.{isConsistent, judgedOf}
 use Rattle.judging.proofs.Answering.{stopped-order, stopped-with, stopped-without}

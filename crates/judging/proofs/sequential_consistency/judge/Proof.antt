@@ -4,7 +4,7 @@ use mathlib.Core.Path.{refl, sym, ap, _∙_}
 use mathlib.Core.Logic.{⊎-elim}
 use mathlib.Core.Bool.{true, false}
 use borrow.Author.Needs.{needs}
-use Rattle.families.specs.Sizes.{threads, capacity}
+use Rattle.values.specs.Sizes.{threads, capacity}
 use Rattle.recording_meaning.specs.Models.{sequentialModel}
 use Rattle.judging.specs.Answers.{toldOf}
 use Rattle.judging.specs.Unnoted.{zeros-ask-nothing}

@@ -1,6 +1,6 @@
 -- Of its own thread an operation can note nothing.
 use borrow.Author.Tests.{eq-eqb, ne-eqb}
-use Rattle.recording.specs.Shape.{notable}
+use Rattle.stepping.specs.Shape.{notable}
 use Rattle.recording.proofs.linearizability.notable_of.Statement.{statement}
 use Rattle.recording.proofs.linearizability.notable_of.Tie as tie
 

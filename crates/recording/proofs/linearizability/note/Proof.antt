@@ -4,10 +4,10 @@ use mathlib.Core.Path.{_≡_, refl, subst}
 use native.Mathlib.Omega.{arith}
 use borrow.Author.Needs.{needs}
 use borrow.Author.Tests.{le-leb, lt-leb}
-use Rattle.families.specs.Sizes.{threads}
+use Rattle.values.specs.Sizes.{threads}
 use Rattle.recording.specs.Testers.{notesWith}
 use Rattle.recording.specs.Pass.{notedAt}
-use Rattle.recording.specs.RecordLaws.{note-more}
+use Rattle.recording.specs.NotesLaws.{note-more}
 use Rattle.recording.proofs.linearizability.note.Statement.{statement}
 use Rattle.recording.proofs.linearizability.note.Tie as tie
 

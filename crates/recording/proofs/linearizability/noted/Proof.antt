@@ -5,10 +5,12 @@ use native.Mathlib.Omega.{arith}
 use lib.ListN.{drop, length}
 use borrow.Author.Needs.{needs}
 use borrow.Author.Tests.{lt-leb}
-use Rattle.families.specs.Sizes.{capacity}
-use Rattle.recording.specs.Record.{held}
-use Rattle.recording.specs.Shape.{notesFitFrom, notesShaped}
-use Rattle.recording.specs.RecordLaws.{unmapped, notes-yes, notes-no, notes-end, notes-all}
+use Rattle.values.specs.Sizes.{capacity}
+use Rattle.stepping.specs.Record.{held}
+use Rattle.stepping.specs.Shape.{notesFitFrom}
+use Rattle.recording.specs.Testers.{notesShaped}
+use Rattle.stepping.specs.RecordLaws.{unmapped}
+use Rattle.recording.specs.NotesLaws.{notes-yes, notes-no, notes-end, notes-all}
 use Rattle.recording.proofs.linearizability.noted.Statement.{statement}
 use Rattle.recording.proofs.linearizability.noted.Tie as tie
 
@@ -48,11 +50,10 @@ loop-again c =
     let h = start .args .t1 in
     let long : length (h .ops) ≡ capacity = unmapped _ (h .ops) capacity (start .good .0 .1 .1 .1 .0 .1 .0 .1) in
     let enough : h .count ≤ length (h .ops) = omega (arith, long, c .before .before .before .before .before .before .before .if1 .left) in
-    let notes = start .args .notes .now in
-    let fit = sym (c .before .notes-fit .ensures) in (
+    let notes = start .args .notes .now in (
       search needs,
-      sym (notes-yes h enough notes (at-loop .i) (c .before .before .before .before .loop-test .taken) (fit ∙ c .if2 .taken))
-          ∙ at-loop .inv .1,
+      notes-yes h enough notes (at-loop .i) (c .before .before .before .before .loop-test .taken) _ (c .before .notes-fit .ensures) (c .if2 .taken) _
+          (at-loop .inv .1),
     )
 
 returns-2 : tie.Need-returns-2 Inv-loop μ-loop
@@ -64,9 +65,9 @@ returns-2 c =
     let notes = start .args .notes .now in
     let long : length (h .ops) ≡ capacity = unmapped _ (h .ops) capacity (start .good .0 .1 .1 .1 .0 .1 .0 .1) in
     let enough : h .count ≤ length (h .ops) = omega (arith, long, at-if1 .left) in
-    let fit = sym (c .before .notes-fit .ensures) in
-    notes-all h notes _ (at-if1 .left) (sym (at-loop .inv .1) ∙ notes-no h enough notes (at-loop .i)
-    (c .before .before .before .before .loop-test .taken) (fit ∙ c .if2 .left))
+    notes-all h notes _ (at-if1 .left)
+    (notes-no h enough notes (at-loop .i) (c .before .before .before .before .loop-test .taken) _ (c .before .notes-fit .ensures) (c .if2 .left) _
+    (at-loop .inv .1))
 
 returns-3 : tie.Need-returns-3 Inv-loop μ-loop
 returns-3 c =

@@ -6,9 +6,9 @@ use lib.Dec.{leb}
 use lib.ListN.{getD}
 use borrow.Author.Needs.{needs}
 use borrow.Author.Tests.{lt-leb, le-leb}
-use Rattle.families.specs.Sizes.{threads}
-use Rattle.recording.specs.Shape.{allBelow, noteAt, notable, notesFit}
-use Rattle.recording.specs.RecordLaws.{below-no, below-more, below-end}
+use Rattle.values.specs.Sizes.{threads}
+use Rattle.stepping.specs.Shape.{allBelow, noteAt, notable, notesFit}
+use Rattle.stepping.specs.RecordLaws.{below-no, below-more, below-end}
 use Rattle.recording.proofs.linearizability.notes_fit.Statement.{statement}
 use Rattle.recording.proofs.linearizability.notes_fit.Tie as tie
 
@@ -60,8 +60,7 @@ loop-again c =
     let at-loop = c .before .before .before .before .before .loop in
     let a = c .before .before .before .before .before .before .args in
     let fits : ℕ → Bool = λ u. leb (noteAt (a .notes .now) (a .at) u) (notable (getD (a .done .now) u 0) (a .own) u) in
-    let here = ap (leb _) (sym (c .before .notable-of .ensures)) in
-    (search needs, below-more fits (at-loop .u) (at-loop .inv .1) (here ∙ le-leb _ _ (c .if1 .left)))
+    (search needs, below-more fits (at-loop .u) (at-loop .inv .1) (ap (leb _) (sym (c .before .notable-of .ensures)) ∙ le-leb _ _ (c .if1 .left)))
 
 returns-2 : tie.Need-returns-2 Inv-loop μ-loop
 unfolding notesFit

@@ -4,7 +4,7 @@ use mathlib.Core.Path.{sym, _∙_}
 use borrow.Author.Needs.{needs}
 use borrow.Author.Tests.{eq-eqb, ne-eqb}
 use Rattle.recording.specs.Pass.{goesOn, countsIn, leftAfter, flyingAfter}
-use Rattle.recording.specs.RecordLaws.{never}
+use Rattle.stepping.specs.RecordLaws.{never}
 use Rattle.recording.proofs.Looking.{fits-known}
 use Rattle.recording.proofs.shape.count_in.Statement.{statement}
 use Rattle.recording.proofs.shape.count_in.Tie as tie

@@ -5,10 +5,11 @@ use mathlib.Core.Bool.{true}
 use native.Mathlib.Omega.{arith}
 use lib.ListN.{length}
 use borrow.Author.Needs.{needs}
-use Rattle.families.specs.Sizes.{capacity}
-use Rattle.families.specs.Refusals.{isClear, startCheck}
-use Rattle.recording.specs.Shape.{kindOf}
-use Rattle.recording.specs.RecordLaws.{unmapped}
+use Rattle.values.specs.Sizes.{capacity}
+use Rattle.values.specs.Checks.{isClear}
+use Rattle.families.specs.Refusals.{startCheck}
+use Rattle.stepping.specs.Shape.{kindOf}
+use Rattle.stepping.specs.RecordLaws.{unmapped}
 use Rattle.recording.proofs.Looking.{Looking, look-start, look-no, look-more, look-end, looks-no, sizes-yes, sizes-no}
 use Rattle.recording.proofs.shape.look_at.Statement.{statement}
 use Rattle.recording.proofs.shape.look_at.Tie as tie
@@ -64,7 +65,7 @@ loop-again c =
     let h = at-start p .args .t1 in
     let counted = c .before .count-in in
     look-more h (long p) (kindOf h) _ _ _ (c .before .before .before .before .before .before .loop .inv)
-    (c .before .before .before .before .before .loop-test .taken) (sym (counted .ensures .0) ∙ c .if2 .taken) _ _
+    (c .before .before .before .before .before .loop-test .taken) _ (counted .ensures .0) (c .if2 .taken) _ _
     (counted .ensures .1 .1 (c .if2 .taken)) (counted .ensures .1 .0 (c .if2 .taken))
 
 returns : tie.Need-returns Inv-loop μ-loop
@@ -73,7 +74,7 @@ returns c =
     let s = at-start p in
     looks-no (s .args .noted) _ _ refl
     (look-no (s .args .t1) (long p) (kindOf (s .args .t1)) _ _ _ (c .before .before .before .before .before .before .loop .inv)
-    (c .before .before .before .before .before .loop-test .taken) (sym (c .before .count-in .ensures .0) ∙ c .if2 .left))
+    (c .before .before .before .before .before .loop-test .taken) _ (c .before .count-in .ensures .0) (c .if2 .left))
 
 none-left-requires : tie.Need-none-left-requires Inv-loop μ-loop
 none-left-requires c κs = search needs

@@ -6,10 +6,10 @@ use lib.Dec.{eqb}
 use lib.ListN.{getD}
 use borrow.Author.Needs.{needs}
 use borrow.Author.Tests.{eq-eqb, ne-eqb}
-use Rattle.families.specs.Sizes.{threads}
+use Rattle.values.specs.Sizes.{threads}
 use Rattle.recording.specs.Pass.{noneLeft}
-use Rattle.recording.specs.Shape.{allBelow}
-use Rattle.recording.specs.RecordLaws.{below-no, below-more, below-end}
+use Rattle.stepping.specs.Shape.{allBelow}
+use Rattle.stepping.specs.RecordLaws.{below-no, below-more, below-end}
 use Rattle.recording.proofs.shape.none_left.Statement.{statement}
 use Rattle.recording.proofs.shape.none_left.Tie as tie
 

@@ -2,7 +2,7 @@
 use borrow.Author.Tests.{le-ltb, lt-ltb}
 use mathlib.Core.Path.{sym, _∙_}
 use borrow.Author.Needs.{needs}
-use Rattle.recording.specs.Shape.{operationFits}
+use Rattle.stepping.specs.Shape.{operationFits}
 use Rattle.recording.proofs.shape.operation_fits.Statement.{statement}
 use Rattle.recording.proofs.shape.operation_fits.Tie as tie
 

@@ -1,6 +1,6 @@
 -- One in flight fits, and one that has returned if its return is the object's.
 use borrow.Author.Needs.{needs}
-use Rattle.recording.specs.Shape.{outcomeFits}
+use Rattle.stepping.specs.Shape.{outcomeFits}
 use Rattle.recording.proofs.shape.outcome_fits.Statement.{statement}
 use Rattle.recording.proofs.shape.outcome_fits.Tie as tie
 

@@ -1,6 +1,6 @@
 -- `replay::objects::are_same` is safe and ends. The measure is the number of places left.
 use Prim.Native.Nat.{_-_}
-use Rattle.families.specs.Sizes.{room}
+use Rattle.values.specs.Sizes.{room}
 use borrow.Author.Needs.{needs}
 use Rattle.replay.proofs.objects.are_same.Statement.{statement}
 use Rattle.replay.proofs.objects.are_same.Tie as tie

@@ -1,7 +1,7 @@
 -- `replay::objects::items_at` is safe and ends. The invariant: the storage keeps its length. The measure is the number of places left.
 use mathlib.Core.Path.{_≡_}
 use Prim.Native.Nat.{_-_}
-use Rattle.families.specs.Sizes.{room}
+use Rattle.values.specs.Sizes.{room}
 use borrow.Author.Needs.{needs}
 use lib.ListN.{length}
 use Rattle.replay.proofs.objects.items_at.Statement.{statement}

@@ -1,6 +1,6 @@
 -- `wall::verdicts::say_order` is safe and ends. The measure is the number of places left.
 use Prim.Native.Nat.{_-_}
-use Rattle.families.specs.Sizes.{capacity}
+use Rattle.values.specs.Sizes.{capacity}
 use borrow.Author.Needs.{needs}
 use Rattle.wall.proofs.verdicts.say_order.Statement.{statement}
 use Rattle.wall.proofs.verdicts.say_order.Tie as tie

@@ -3,12 +3,13 @@ use Prim.Native.Nat.{_≤_}
 use mathlib.Core.Path.{_≡_, sym, _∙_}
 use lib.ListN.{length}
 use borrow.Author.Needs.{needs}
-use Rattle.families.specs.Sizes.{threads, capacity, room}
-use Rattle.recording.specs.Shape.{shapeOf, notesShaped}
+use Rattle.values.specs.Sizes.{threads, capacity, room}
+use Rattle.stepping.specs.Shape.{shapeOf}
+use Rattle.recording.specs.Testers.{notesShaped}
 use Rattle.recording_meaning.specs.Reading.{Sized}
 use Rattle.recording_meaning.specs.Parts.{pick-right, parts-of}
 use Rattle.recording_meaning.specs.Models.{linearizabilityModel}
-use Rattle.recording.specs.RecordLaws.{unmapped}
+use Rattle.stepping.specs.RecordLaws.{unmapped}
 use Rattle.witness.proofs.Endings.{notes-met}
 use Rattle.witness.proofs.Checks.{check-unshaped, check-invalid, check-replayed}
 use Rattle.witness.proofs.linearizability.check.Statement.{statement}

@@ -5,8 +5,8 @@ use mathlib.Core.Logic.{⊎-elim}
 use native.Mathlib.Omega.{arith}
 use lib.ListN.{length}
 use borrow.Author.Needs.{needs}
-use Rattle.families.specs.Sizes.{capacity}
-use Rattle.recording.specs.RecordLaws.{unmapped}
+use Rattle.values.specs.Sizes.{capacity}
+use Rattle.stepping.specs.RecordLaws.{unmapped}
 use Rattle.witness.proofs.Finding.{Finding, find-start, found, find-own, find-other, find-end}
 use Rattle.witness.proofs.replay.find.Statement.{statement}
 use Rattle.witness.proofs.replay.find.Tie as tie

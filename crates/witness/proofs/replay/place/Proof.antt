@@ -4,9 +4,9 @@ use native.Mathlib.Omega.{arith}
 use lib.ListN.{length}
 use borrow.Author.Needs.{needs}
 use borrow.Author.Tests.{lt-ltb, le-ltb}
-use Rattle.families.specs.Sizes.{capacity}
+use Rattle.values.specs.Sizes.{capacity}
 use Rattle.witness.specs.WordsPlayed.{stageAfter}
-use Rattle.recording.specs.RecordLaws.{unmapped}
+use Rattle.stepping.specs.RecordLaws.{unmapped}
 use Rattle.witness.proofs.Finding.{number-below}
 use Rattle.witness.proofs.replay.place.Statement.{statement}
 use Rattle.witness.proofs.replay.place.Tie as tie

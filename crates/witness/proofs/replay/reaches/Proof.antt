@@ -7,10 +7,10 @@ use lib.ListN.{getD}
 use lib.Dec.{leb}
 use borrow.Author.Needs.{needs}
 use borrow.Author.Tests.{le-leb, lt-leb}
-use Rattle.families.specs.Sizes.{threads}
-use Rattle.recording.specs.Shape.{allBelow}
+use Rattle.values.specs.Sizes.{threads}
+use Rattle.stepping.specs.Shape.{allBelow}
 use Rattle.witness.specs.WordsPlayed.{reachesOf}
-use Rattle.recording.specs.RecordLaws.{below-no, below-more, below-end}
+use Rattle.stepping.specs.RecordLaws.{below-no, below-more, below-end}
 use Rattle.witness.proofs.replay.reaches.Statement.{statement}
 use Rattle.witness.proofs.replay.reaches.Tie as tie
 

@@ -4,8 +4,8 @@ use mathlib.Core.Path.{_≡_}
 use lib.ListN.{length}
 use native.Mathlib.Omega.{arith}
 use borrow.Author.Needs.{needs}
-use Rattle.families.specs.Sizes.{threads}
-use Rattle.recording.specs.RecordLaws.{unmapped}
+use Rattle.values.specs.Sizes.{threads}
+use Rattle.stepping.specs.RecordLaws.{unmapped}
 use Rattle.witness.proofs.Going.{Going, going-start, going-short, going-on, going-wrong, going-ended, going-pending}
 use Rattle.witness.proofs.replay.replay.Statement.{statement}
 use Rattle.witness.proofs.replay.replay.Tie as tie

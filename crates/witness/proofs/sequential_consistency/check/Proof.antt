@@ -3,11 +3,11 @@ use Prim.Native.Nat.{_*_, _≤_}
 use mathlib.Core.Path.{_≡_, sym, _∙_}
 use lib.ListN.{length, replicate}
 use borrow.Author.Needs.{needs}
-use Rattle.families.specs.Sizes.{threads, capacity, room}
+use Rattle.values.specs.Sizes.{threads, capacity, room}
 use Rattle.recording_meaning.specs.Reading.{Sized}
 use Rattle.recording_meaning.specs.Parts.{parts-of}
 use Rattle.recording_meaning.specs.Models.{sequentialModel}
-use Rattle.recording.specs.RecordLaws.{unmapped}
+use Rattle.stepping.specs.RecordLaws.{unmapped}
 use Rattle.witness.proofs.Endings.{zeros-met}
 use Rattle.witness.proofs.Checks.{check-unshaped, check-invalid, check-replayed}
 use Rattle.witness.proofs.sequential_consistency.check.Statement.{statement}

@@ -3,7 +3,7 @@ use mathlib.Core.Path.{_≡_, refl}
 use mathlib.Core.Bool.{Bool, true, false}
 use borrow.Author.Needs.{needs}
 use borrow.Author.Tests.{eq-eqb, ne-eqb}
-use Rattle.families.specs.Value.{pick}
+use Rattle.values.specs.Value.{pick}
 use Rattle.witness.specs.Words.{wordsOf}
 use Rattle.witness.specs.Checking.{sameWords}
 use Rattle.witness.proofs.words.describes.Statement.{statement}

@@ -3,8 +3,8 @@ use Prim.Native.Nat.{_-_}
 use mathlib.Core.Bool.{Bool}
 use mathlib.Core.Path.{ap, _∙_}
 use borrow.Author.Needs.{needs}
-use Rattle.recording.specs.EventSteps.{sizeOf}
-use Rattle.recording.specs.Shape.{shapedWith}
+use Rattle.stepping.specs.EventSteps.{sizeOf}
+use Rattle.stepping.specs.Shape.{shapedWith}
 use Rattle.recording.specs.Testers.{linearizabilityLen}
 use Rattle.recording.proofs.linearizability.LinearizabilityTester.len.Statement.{statement}
 use Rattle.recording.proofs.linearizability.LinearizabilityTester.len.Tie as tie

@@ -4,10 +4,9 @@ use mathlib.Core.Bool.{Bool}
 use mathlib.Core.Path.{sym, ap, _∙_}
 use native.Mathlib.Omega.{arith}
 use borrow.Author.Needs.{needs}
-use Rattle.recording.specs.EventSteps.{invokeOf}
-use Rattle.recording.specs.Shape.{shapedWith}
+use Rattle.stepping.specs.EventSteps.{invokeOf}
+use Rattle.stepping.specs.Shape.{shapedWith}
 use Rattle.recording.specs.Testers.{shapedTester}
-use Rattle.recording.specs.Admitting.{noted-in}
 use Rattle.recording.proofs.Noting.{taken-in, invoked-yes, invoked-no}
 use Rattle.recording.proofs.linearizability.LinearizabilityTester.on_invoke.Statement.{statement}
 use Rattle.recording.proofs.linearizability.LinearizabilityTester.on_invoke.Tie as tie
@@ -46,7 +45,7 @@ returns c =
     let e = c .before .before .before .before .before .before .before .record-event .ensures ∙ ap (λ (b : Bool). invokeOf (shapedWith b h) h thread op)
     (c .before .before .before .before .before .before .before .before .noted .ensures) in
     let k = sym (c .before .before .before .before .before .is-taken .ensures) ∙ c .before .before .before .before .if1 .taken in
-    invoked-yes tester thread op _ e k _ (c .note .ensures ∙ noted-in _ thread _ _ (taken-in (shapedTester tester) h thread op _ e k .0))
+    invoked-yes tester thread op _ e k _ (c .note .ensures)
 
 returns-2 : tie.Need-returns-2
 returns-2 c =

@@ -3,10 +3,10 @@ use Prim.Native.Nat.{_-_}
 use mathlib.Core.Bool.{Bool}
 use mathlib.Core.Path.{ap, _∙_}
 use borrow.Author.Needs.{needs}
-use Rattle.recording.specs.EventSteps.{returnOf}
-use Rattle.recording.specs.Shape.{shapedWith}
+use Rattle.stepping.specs.EventSteps.{returnOf}
+use Rattle.stepping.specs.Shape.{shapedWith}
 use Rattle.recording.specs.Testers.{linearizabilityAfter, linearizabilityReturn}
-use Rattle.recording.specs.declared.consistency_tester.Step.{Step}
+use Rattle.stepping.specs.declared.step.Step.{Step}
 use Rattle.recording.proofs.linearizability.LinearizabilityTester.on_return.Statement.{statement}
 use Rattle.recording.proofs.linearizability.LinearizabilityTester.on_return.Tie as tie
 

@@ -8,7 +8,7 @@ look-at-requires : tie.Need-look-at-requires
 look-at-requires c κs = search needs
 
 returns : tie.Need-returns
-returns c = c .look-at .ensures .ok
+returns c = c .look-at .ensures .ok-is
 
 pub is-in-shape-spec : {M : Type 1} → statement M
 is-in-shape-spec = tie.close (tie.spec look-at-requires returns)

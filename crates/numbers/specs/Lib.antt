@@ -1,0 +1,5 @@
+pub mod FileRefusals
+pub mod Reader
+pub mod Number
+pub mod Groups
+pub mod Sums

@@ -1,0 +1,9 @@
+pub mod Record
+pub mod Shape
+pub mod EventSteps
+pub mod StepChecks
+pub mod OneStep
+pub mod RecordLaws
+pub mod HeldPlaces
+pub mod Admitting
+pub mod Drawn
