@@ -1,25 +1,66 @@
 //! Files that both sides are handed, turn and turn about: the exported call, and the Rust from the same bytes.
 
 use crate::files::{self, Written};
+use crate::histories::{Event, History};
 use crate::reader::{self, Read};
-use kilteshva::{judge, raw, Answer};
+use crate::summary::Measured;
+use crate::testers::Tester;
+use crate::turns::{enough, least, nanoseconds};
+use kilteshva::{judge, raw, Answer, Model, Refusal};
 use std::hint::black_box;
 use std::marker::PhantomData;
-use timing::histories::{Event, History};
-use timing::summary::Measured;
-use timing::testers::{Model, Tester};
-use timing::turns::{enough, least, nanoseconds};
 
 const TURNS: usize = 7;
 
 const LARGEST: u64 = u64::MAX;
 
-/// Of the port, loading and all that precedes the search: the call with this budget makes no attempt.
+/// The call with this budget makes no attempt.
 const NOTHING: u64 = 0;
+
+/// A number that should go on: a file with it behind its events is refused, but only when all of them have been
+/// recorded, and nothing is judged.
+const CUT: u8 = 128;
+
+/// What is timed on a file. Of the port it is always the exported call.
+#[derive(Clone, Copy)]
+enum Run {
+    PortWhole,
+    /// All that precedes the first attempt.
+    PortLoading,
+    /// Less than that: the search is not prepared either.
+    PortRecording,
+    RustWhole,
+    /// Reading and feeding.
+    RustLoading,
+}
+
+const RUNS: [Run; 5] = [
+    Run::PortWhole,
+    Run::PortLoading,
+    Run::PortRecording,
+    Run::RustWhole,
+    Run::RustLoading,
+];
+
+/// Nanoseconds of both sides, the port's first.
+pub type Sides = [f64; 2];
+
+/// The whole call, loading alone, and judging alone: what a side's whole call takes beyond recording the events.
+pub type Parts<T> = [T; 3];
+
+fn parts(runs: [f64; RUNS.len()]) -> Parts<Sides> {
+    let [port, port_loading, port_recording, rust, rust_loading] = runs;
+    [
+        [port, rust],
+        [port_loading, rust_loading],
+        [port - port_recording, rust - rust_loading],
+    ]
+}
 
 /// A file, and the model that it is judged by.
 pub struct File<F> {
     bytes: Vec<u8>,
+    cut_behind: Vec<u8>,
     model: Model,
     family: PhantomData<F>,
 }
@@ -39,7 +80,7 @@ where
 {
     let called = |history| {
         let file = File::of(history, model);
-        let (threads, attempts) = match judge(&file.bytes, named(model), budget) {
+        let (threads, attempts) = match judge(&file.bytes, model, budget) {
             Answer::Order { threads, attempts } => (Some(threads), attempts),
             Answer::NoOrder { attempts } => (None, attempts),
             Answer::Undecided { .. } => return None,
@@ -55,13 +96,6 @@ where
         })
     };
     histories.iter().filter_map(called).collect()
-}
-
-fn named(model: Model) -> kilteshva::Model {
-    match model {
-        Model::Sequential => kilteshva::Model::Sequential,
-        Model::Linearizable => kilteshva::Model::Linearizable,
-    }
 }
 
 /// The operations, of which all have returned, as these threads have them in turn.
@@ -83,44 +117,58 @@ fn in_order<F: Written>(history: &History<F>, threads: &[u8]) -> Vec<(F::Op, F::
 }
 
 impl<F: Written + Read> File<F> {
+    /// Seen to be loaded to its end, with every event recorded.
     pub fn of(history: &History<F>, model: Model) -> Self {
+        let bytes = files::bytes(history);
+        let cut_behind = [&bytes[..], &[CUT]].concat();
+        let loaded = judge(&bytes, model, NOTHING);
+        assert!(matches!(loaded, Answer::Undecided { .. }), "{loaded}");
+        let refused = Answer::Refused {
+            refusal: Refusal::CutOff,
+            place: bytes.len() as u32,
+        };
+        assert_eq!(judge(&cut_behind, model, LARGEST), refused);
         File {
-            bytes: files::bytes(history),
+            bytes,
+            cut_behind,
             model,
             family: PhantomData,
         }
     }
 
-    /// Nanoseconds of both sides for the whole call.
-    fn whole(&self) -> [f64; 2] {
-        over_and_over(
-            |times| self.port(LARGEST, times),
-            |times| self.rust_judges(times),
-        )
+    /// Nanoseconds of both sides for loading alone.
+    pub fn loading(&self) -> Sides {
+        self.over_and_over([Run::PortLoading, Run::RustLoading])
     }
 
-    /// And for loading alone, of a file that both load to its end.
-    pub fn loading(&self) -> [f64; 2] {
-        let answer = judge(&self.bytes, named(self.model), NOTHING);
-        assert!(matches!(answer, Answer::Undecided { .. }), "{answer}");
-        over_and_over(
-            |times| self.port(NOTHING, times),
-            |times| self.rust_loads(times),
-        )
+    /// Nanoseconds of each of these, from doing it over and over.
+    fn over_and_over<const N: usize>(&self, runs: [Run; N]) -> [f64; N] {
+        let runs = runs.map(|run| (run, enough(|times| self.run(run, times))));
+        least(TURNS, || {
+            runs.map(|(run, times)| nanoseconds(times, || self.run(run, times)))
+        })
     }
 
-    /// The exported call, so many times.
-    fn port(&self, budget: u64, times: u64) -> u64 {
+    /// Does this so many times.
+    fn run(&self, run: Run, times: u64) -> u64 {
+        match run {
+            Run::PortWhole => self.port(&self.bytes, LARGEST, times),
+            Run::PortLoading => self.port(&self.bytes, NOTHING, times),
+            Run::PortRecording => self.port(&self.cut_behind, NOTHING, times),
+            Run::RustWhole => self.rust_judges(times),
+            Run::RustLoading => self.rust_loads(times),
+        }
+    }
+
+    fn port(&self, file: &[u8], budget: u64, times: u64) -> u64 {
         let mut answer = [0; raw::ANSWER];
         let mut call = || {
-            let file = black_box(self.bytes.as_slice());
-            let result = raw::judge(file, self.model as u32, budget, &mut answer);
+            let result = raw::judge(black_box(file), self.model.number(), budget, &mut answer);
             u64::from(result) + u64::from(answer[0])
         };
         (0..times).map(|_| call()).sum()
     }
 
-    /// The Rust's reading and feeding, so many times.
     fn rust_loads(&self, times: u64) -> u64 {
         for _ in 0..times {
             black_box(self.rust_loaded());
@@ -128,7 +176,6 @@ impl<F: Written + Read> File<F> {
         times
     }
 
-    /// And its search too.
     fn rust_judges(&self, times: u64) -> u64 {
         let judge = |_| u64::from(self.rust_loaded().has_order());
         (0..times).map(judge).sum()
@@ -141,9 +188,9 @@ impl<F: Written + Read> File<F> {
 }
 
 impl<F: Written + Read> Called<F> {
-    /// The whole call, and loading alone.
-    pub fn measured(&self) -> [Measured; 2] {
-        [self.file.whole(), self.file.loading()].map(|[port, rust]| Measured {
+    /// Nanoseconds of each part, from doing it over and over.
+    pub fn measured(&self) -> Parts<Measured> {
+        parts(self.file.over_and_over(RUNS)).map(|[port, rust]| Measured {
             has_order: self.has_order,
             attempts: self.attempts as f64,
             port,
@@ -152,28 +199,9 @@ impl<F: Written + Read> Called<F> {
     }
 }
 
-/// Nanoseconds of each side, from doing it over and over.
-fn over_and_over(port: impl Fn(u64) -> u64, rust: impl Fn(u64) -> u64) -> [f64; 2] {
-    let (port_times, rust_times) = (enough(&port), enough(&rust));
-    least(TURNS, || {
-        [
-            nanoseconds(port_times, || port(port_times)),
-            nanoseconds(rust_times, || rust(rust_times)),
-        ]
-    })
-}
-
-/// Nanoseconds that each side takes for all of these, each once: the whole call, and loading alone. No call is
-/// helped by one on the same file just before it.
-pub fn one_pass<F: Written + Read>(called: &[Called<F>]) -> [[f64; 2]; 2] {
-    let all = |one: &dyn Fn(&File<F>) -> u64| called.iter().map(|called| one(&called.file)).sum();
-    let [port, port_loading, rust, rust_loading] = least(TURNS, || {
-        [
-            nanoseconds(1, || all(&|file| file.port(LARGEST, 1))),
-            nanoseconds(1, || all(&|file| file.port(NOTHING, 1))),
-            nanoseconds(1, || all(&|file| file.rust_judges(1))),
-            nanoseconds(1, || all(&|file| file.rust_loads(1))),
-        ]
-    });
-    [[port, rust], [port_loading, rust_loading]]
+/// Nanoseconds of each part for all of these, each once: no call is helped by one on the same file just before
+/// it.
+pub fn one_pass<F: Written + Read>(called: &[Called<F>]) -> Parts<Sides> {
+    let all = |run| called.iter().map(|called| called.file.run(run, 1)).sum();
+    parts(least(TURNS, || RUNS.map(|run| nanoseconds(1, || all(run)))))
 }

@@ -1,12 +1,13 @@
 //! The exported call, from a file's bytes to the answer's, beside the Rust from the same bytes to its order.
 
-use crate::called::{decided_by, one_pass, Called, File};
+use crate::called::{decided_by, one_pass, Called, File, Parts, Sides};
 use crate::files::{self, Written};
+use crate::histories::{histories, unbroken, History, LONG, SEED};
+use crate::overlap;
 use crate::reader::Read;
+use crate::summary::{Measured, Summary};
+use crate::testers::MODELS;
 use stateright::semantics::register::Register;
-use timing::histories::{histories, unbroken, History, LONG, SEED};
-use timing::summary::{Measured, Summary};
-use timing::testers::MODELS;
 
 pub fn print() {
     thousand::<Register<i32>>();
@@ -27,12 +28,15 @@ fn thousand<F: Written + Read>() {
     println!("{}:", described(&histories, 12));
     for model in MODELS {
         let called = decided_by(u64::MAX, &histories, model);
-        let [whole, loading] = summaries(&called);
+        let [whole, loading, judging] = summaries(&called);
         println!("  {model}: {}", whole.verdicts());
         println!("    whole call: {}", whole.compared());
         println!("    loading alone: {}", loading.compared());
-        let [whole, loading] = one_pass(&called).map(passed);
-        println!("    one pass: whole call {whole}; loading alone {loading}");
+        println!("    judging alone: {}", judging.judged());
+        let [whole, loading, judging] = one_pass(&called).map(passed);
+        println!("    in one pass, whole call: {whole}");
+        println!("    in one pass, loading alone: {loading}");
+        println!("    in one pass, judging alone: {judging}");
     }
 }
 
@@ -42,9 +46,10 @@ fn growth<F: Written + Read>(operations: usize) {
     println!("{}:", described(&histories, operations));
     for model in MODELS {
         let called = decided_by(LONG, &histories, model);
-        let [whole, loading] = summaries(&called);
+        let [whole, loading, judging] = summaries(&called);
         println!("  {model}: {}", whole.means());
         println!("    loading alone: {}", loaded(&loading, operations));
+        println!("    judging alone: {}", judging.judged());
     }
 }
 
@@ -71,14 +76,16 @@ fn described<F: Written>(histories: &[History<F>], operations: usize) -> String 
     let bytes: usize = histories.iter().map(|one| files::bytes(one).len()).sum();
     let (name, count) = (F::NAME, histories.len());
     let each = bytes as f64 / count as f64;
-    format!("{count} {name} files of {operations} operations, of {each:.0} bytes")
+    let percent = overlap::percent(histories);
+    format!(
+        "{count} {name} files of {operations} operations, of which {percent:.0} % overlap, \
+         of {each:.0} bytes"
+    )
 }
 
-/// Of the whole call, and of loading alone.
-fn summaries<F: Written + Read>(called: &[Called<F>]) -> [Summary; 2] {
-    let measured: Vec<[Measured; 2]> = called.iter().map(Called::measured).collect();
-    let (whole, loading) = measured.into_iter().map(<(_, _)>::from).unzip();
-    [Summary::of(whole), Summary::of(loading)]
+fn summaries<F: Written + Read>(called: &[Called<F>]) -> Parts<Summary> {
+    let measured: Vec<Parts<Measured>> = called.iter().map(Called::measured).collect();
+    std::array::from_fn(|part| Summary::of(measured.iter().map(|parts| parts[part]).collect()))
 }
 
 fn loaded(loading: &Summary, operations: usize) -> String {
@@ -86,7 +93,7 @@ fn loaded(loading: &Summary, operations: usize) -> String {
     format!("{}; {event}", loading.compared())
 }
 
-fn passed(times: [f64; 2]) -> String {
+fn passed(times: Sides) -> String {
     let [port, rust] = times.map(|nanoseconds| nanoseconds / 1e6);
     let ratio = rust / port;
     format!("port {port:.2} ms, Rust {rust:.2} ms, {ratio:.2} times as fast")

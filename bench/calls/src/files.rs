@@ -1,11 +1,11 @@
 //! Histories as the bytes of corpus files.
 
+use crate::family::Family;
+use crate::histories::{self, History};
 use capture::{Call, Capture, Event, Object, Op, Ret};
 use capture::{RegisterOp, RegisterRet, StackOp, StackRet};
 use stateright::semantics::register::{self, Register};
 use stateright::semantics::vec::{VecOp, VecRet};
-use timing::family::Family;
-use timing::histories::{self, History};
 
 /// A family with the words of corpus files for its objects, operations and returns.
 pub trait Written: Family {

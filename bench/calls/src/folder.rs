@@ -1,14 +1,14 @@
 //! The command on folders of small captures.
 
 use crate::files::{self, Written};
+use crate::histories::{histories, SEED};
+use crate::turns::{least, nanoseconds};
 use kilteshva::{judge, Model};
 use stateright::semantics::register::Register;
 use std::fs;
 use std::hint::black_box;
 use std::path::Path;
 use std::process::Command;
-use timing::histories::{histories, SEED};
-use timing::turns::{least, nanoseconds};
 
 const TURNS: usize = 7;
 

@@ -2,9 +2,16 @@
 
 mod called;
 mod calls;
+mod family;
 mod files;
 mod folder;
+mod histories;
+mod overlap;
+mod random;
 mod reader;
+mod summary;
+mod testers;
+mod turns;
 
 use std::path::Path;
 use std::process::ExitCode;

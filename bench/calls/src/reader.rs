@@ -3,14 +3,15 @@
 //!
 //! It refuses what it can't read and what the tester refuses, but says neither why nor where.
 
+use crate::family::Family;
+use crate::testers::Tester;
 use capture::OPENING;
+use kilteshva::Model;
 use stateright::semantics::register::{Register, RegisterOp, RegisterRet};
 use stateright::semantics::vec::{VecOp, VecRet};
 use stateright::semantics::{
     ConsistencyTester, LinearizabilityTester, SequentialConsistencyTester, SequentialSpec,
 };
-use timing::family::Family;
-use timing::testers::{Model, Tester};
 
 /// A family that can be read.
 pub trait Read: SequentialSpec {
@@ -144,8 +145,8 @@ impl Read for Vec<i32> {
 mod tests {
     use super::*;
     use crate::files::{bytes, Written};
-    use timing::histories::{histories, History};
-    use timing::testers::MODELS;
+    use crate::histories::{histories, History};
+    use crate::testers::MODELS;
 
     fn drawn<F: Family>() -> Vec<History<F>> {
         histories(40, 12, 1)

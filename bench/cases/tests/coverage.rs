@@ -161,7 +161,7 @@ fn numbers_are_padded_up_to_five_bytes_and_too_long() {
             let padding = [vec![128; zeros - 1], vec![0]].concat();
             let is_padded = |bytes: &[u8]| bytes[0] >= 128 && bytes[1..] == padding;
             let is = |line: &Line| {
-                let loads = matches!(line.answer[..], [0 | 1 | 2, 0, ..]);
+                let loads = matches!(line.answer[..], [0..=2, 0, ..]);
                 let mut parts = line.file.windows(zeros + 1);
                 family_of(line) == Some(family) && loads && parts.any(is_padded)
             };

@@ -1,6 +1,7 @@
 //! What was measured of many histories, in one line.
 
 /// One history: its verdict, the attempts, and the nanoseconds of each side.
+#[derive(Clone, Copy)]
 pub struct Measured {
     pub has_order: bool,
     pub attempts: f64,
@@ -33,21 +34,6 @@ impl Summary {
         }
     }
 
-    /// The times of all histories together, and how the two sides compare.
-    pub fn sums(&self) -> String {
-        format!(
-            "port {:.2} ms, Rust {:.2} ms, {:.1} times as fast (median of the histories {:.1}); \
-             {:.0} attempts a history, of {:.1} ns; {} have an order",
-            self.port / 1e6,
-            self.rust / 1e6,
-            self.rust / self.port,
-            self.median,
-            self.mean(self.attempts),
-            self.port / self.attempts,
-            self.orders,
-        )
-    }
-
     /// The times of a history.
     pub fn means(&self) -> String {
         format!(
@@ -71,7 +57,13 @@ impl Summary {
         )
     }
 
-    /// The same for an event, where a history has so many.
+    /// The same, where this was judging, and the port's time of an attempt.
+    pub fn judged(&self) -> String {
+        let attempt = self.port / self.attempts;
+        format!("{}; port {attempt:.1} ns an attempt", self.compared())
+    }
+
+    /// The times of an event, where a history has so many.
     pub fn of_an_event(&self, events: usize) -> String {
         let [port, rust] = [self.port, self.rust].map(|sum| self.mean(sum) / events as f64);
         format!("port {port:.0} ns, Rust {rust:.0} ns an event")

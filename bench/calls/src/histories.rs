@@ -1,11 +1,12 @@
-//! Histories for judging: four threads share the operations evenly, and all of them return. Every second
+//! Drawn histories: four threads share the operations evenly, and all of them return. Every second
 //! history is broken: one return is changed, and linearizability has no order for it.
 
 use crate::family::Family;
 use crate::random::{next, pick};
-use crate::testers::{Model, Tester};
+use crate::testers::Tester;
+use kilteshva::Model;
 
-/// The seed of all that is judged.
+/// The seed of all that is timed.
 pub const SEED: u64 = 2026;
 
 /// A history whose search takes more attempts than this has no place in a growth table.
@@ -22,25 +23,9 @@ pub enum Event<F: Family> {
     Return(u32, F::Ret),
 }
 
-impl<F: Family> Event<F> {
-    /// The event as the port is given it. Byte 0: bit 0 says invoke or return, the next three the thread,
-    /// the rest the number of the operation or the return in its family; byte 1 its value.
-    fn bytes(&self) -> [u8; 2] {
-        let (kind, thread, [number, value]) = match self {
-            Event::Invoke(thread, op) => (0, *thread, F::operation_numbers(op)),
-            Event::Return(thread, ret) => (1, *thread, F::return_numbers(ret)),
-        };
-        [kind + 2 * thread as u8 + 16 * number, value]
-    }
-}
-
 pub struct History<F: Family>(pub Vec<Event<F>>);
 
 impl<F: Family> History<F> {
-    pub fn bytes(&self) -> Vec<u8> {
-        self.0.iter().flat_map(Event::bytes).collect()
-    }
-
     /// Changes the return of a random event, if that is one which tells of the object.
     fn change(&mut self, random: &mut u64) {
         let at = next(random) % self.0.len();

@@ -1,4 +1,5 @@
-//! The generator (a linear congruential one): the same inputs on every machine.
+//! The generator of what is timed (a linear congruential one): the same inputs on every machine, and at every
+//! commit, so that times can be compared with earlier ones. The tests draw by `capture::random`.
 
 /// A number of 31 bits.
 pub fn next(state: &mut u64) -> usize {

@@ -2,26 +2,11 @@
 
 use crate::family::Family;
 use crate::histories::{Event, History};
+use kilteshva::Model;
 use stateright::semantics::{
     ConsistencyTester, LinearizabilityTester, SequentialConsistencyTester,
 };
-use std::fmt::{Display, Formatter};
 use std::hint::black_box;
-
-#[derive(Clone, Copy)]
-pub enum Model {
-    Sequential = 0,
-    Linearizable = 1,
-}
-
-impl Display for Model {
-    fn fmt(&self, f: &mut Formatter) -> std::fmt::Result {
-        f.write_str(match self {
-            Model::Sequential => "sequential",
-            Model::Linearizable => "linearizable",
-        })
-    }
-}
 
 pub const MODELS: [Model; 2] = [Model::Linearizable, Model::Sequential];
 
