@@ -1,6 +1,9 @@
-"""Where the project stands, for the tools."""
+"""Where the project stands, for the tools; and a tool whose reader has seen enough, as `head` has, ends quietly."""
 import pathlib
+import signal
 import sys
+
+signal.signal(signal.SIGPIPE, signal.SIG_DFL)
 
 
 def top():
