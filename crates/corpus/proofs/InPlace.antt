@@ -24,8 +24,9 @@ use Rattle.stepping.specs.Record.{fresh}
 use Rattle.stepping.specs.Shape.{kindOf}
 use Rattle.recording.specs.Testers.{notesShaped}
 use Rattle.stepping.specs.EventSteps.{isTaken, validAfter, step}
-use Rattle.recording.specs.Testers.{linearizability, shapedTester, notesWith, linearizabilityAfter, invokedBy, linearizabilityInvoke, linearizabilityReturn}
-use Rattle.recording.specs.NotesLaws.{noted-in}
+use Rattle.recording.specs.Testers.{linearizability, shapedTester, linearizabilityAfter, invokedBy, linearizabilityInvoke, linearizabilityReturn}
+use Rattle.shape.specs.Notes.{notesWith}
+use Rattle.shape.specs.NotesLaws.{noted-in}
 use Rattle.stepping.specs.StepChecks.{Known, placeIn, placeAt}
 use Rattle.stepping.specs.OneStep.{eventOf, threadOf, comesTo, placeFor, changed, changeAt, change-invoked, change-returned, thread-invoked, mark-invoked, mark-returned}
 use Rattle.stepping.specs.Admitting.{Fits}

@@ -15,7 +15,7 @@ use Rattle.families.specs.declared.event.Event.{Event as CEvent}
 use Rattle.stepping.specs.declared.recorded.Recorded.{Recorded}
 use Rattle.recording.specs.declared.linearizability.LinearizabilityTester.{LinearizabilityTester}
 use Rattle.stepping.specs.EventSteps.{numberOf as recordedNumber, validAfter}
-use Rattle.recording.specs.Pass.{notedAt}
+use Rattle.shape.specs.Notes.{notedAt}
 use Rattle.stepping.specs.OneStep.{comesTo, placeFor}
 use Rattle.recording_meaning.specs.Models.{linearizabilityModel}
 use Rattle.corpus.specs.declared.turns.Turn.{Turn}

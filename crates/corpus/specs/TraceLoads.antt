@@ -7,9 +7,9 @@ use Rattle.families.specs.Refusals.{familyCheck, opBelongs, retBelongs, startCh
 use Rattle.values.specs.Checks.{isClear, inOrder}
 use Rattle.stepping.specs.Record.{fresh, isPending, flyingBy, flyingFrom, findFlying}
 use Rattle.stepping.specs.Shape.{doneBy, countDone, notable, allBelow, outcomeFits, operationFits, operationsFit, noneOf, flyingLast, countsRight, shapeOf, notesFit, notesFitFrom}
-use Rattle.recording.specs.Testers.{notesShaped}
 use Rattle.stepping.specs.EventSteps.{numberOf as recordedNumber, isTaken, begunOf, invokeOf, returnOf}
-use Rattle.recording.specs.Testers.{newSequential, sequentialInvoke, sequentialReturn, newLinearizability, notesWith, linearizabilityInvoke, linearizabilityReturn}
+use Rattle.recording.specs.Testers.{newSequential, sequentialInvoke, sequentialReturn, newLinearizability, linearizabilityInvoke, linearizabilityReturn}
+use Rattle.shape.specs.Notes.{notesIn, notesWith}
 use Rattle.recording_meaning.specs.Models.{Model, sequentialModel, linearizabilityModel}
 use Rattle.recording_meaning.specs.Inputs.{feed}
 use Rattle.format.specs.TraceFiles.{trace-3, trace-14, trace-header, trace-spelled}
@@ -32,7 +32,7 @@ unfolding newRegister newSequential sequentialInvoke sequentialReturn recordedNu
 all-sequential = (refl, (refl, (refl, tt)))
 
 all-linearizability : AllRecorded linearizabilityModel (linearizabilityModel .new (newRegister (pos 65))) trace-3
-unfolding newRegister newLinearizability linearizabilityInvoke linearizabilityReturn notesWith notable notesFit notesFitFrom notesShaped recordedNumber isTaken begunOf invokeOf returnOf fresh isPending flyingBy flyingFrom findFlying doneBy countDone allBelow outcomeFits operationFits operationsFit noneOf flyingLast countsRight shapeOf familyOf opFamily retFamily familyNumber familyCheck opBelongs retBelongs isClear startCheck shapeCheck sizeCheck inOrder
+unfolding newRegister newLinearizability linearizabilityInvoke linearizabilityReturn notesWith notable notesFit notesFitFrom notesIn recordedNumber isTaken begunOf invokeOf returnOf fresh isPending flyingBy flyingFrom findFlying doneBy countDone allBelow outcomeFits operationFits operationsFit noneOf flyingLast countsRight shapeOf familyOf opFamily retFamily familyNumber familyCheck opBelongs retBelongs isClear startCheck shapeCheck sizeCheck inOrder
 all-linearizability = (refl, (refl, (refl, tt)))
 
 -- It loads without refusal to the tester of trace 3's events.

@@ -16,9 +16,9 @@ use Rattle.families.specs.Objects.{newRegister}
 use Rattle.families.specs.States.{stateOf}
 use Rattle.stepping.specs.Record.{fresh, isPending, flyingBy, flyingFrom, findFlying}
 use Rattle.stepping.specs.Shape.{doneBy, countDone, notable, allBelow, outcomeFits, operationFits, operationsFit, noneOf, flyingLast, countsRight, shapeOf, notesFit, notesFitFrom}
-use Rattle.recording.specs.Testers.{notesShaped}
 use Rattle.stepping.specs.EventSteps.{isTaken, begunOf, invokeOf, returnOf}
-use Rattle.recording.specs.Testers.{newSequential, sequentialInvoke, sequentialReturn, newLinearizability, notesWith, linearizabilityInvoke, linearizabilityReturn}
+use Rattle.recording.specs.Testers.{newSequential, sequentialInvoke, sequentialReturn, newLinearizability, linearizabilityInvoke, linearizabilityReturn}
+use Rattle.shape.specs.Notes.{notesIn, notesWith}
 use Rattle.recording_meaning.specs.Reading.{rowsOf, notesOf}
 use Rattle.recording_meaning.specs.Models.{sequentialModel, linearizabilityModel}
 use Rattle.judging.specs.Answers.{numberOf, toldOf, judgedOf, judgeOf}
@@ -43,7 +43,7 @@ sequential-bytes budget h =
 linearizability-bytes : (budget : ℕ) → 2 ≤ budget → bytesOf (reportOf linearizabilityModel trace-14 budget) ≡ trace-bytes
 unfolding zigzag eqZ sameCoded registerAnswer registerAfter registerRetCoded retCoded answers right after sameRet familyOf opFamily retFamily familyNumber familyCheck opBelongs retBelongs isClear startCheck shapeCheck sizeCheck inOrder newRegister stateOf
     fresh isPending flyingBy flyingFrom findFlying doneBy countDone notable allBelow outcomeFits operationFits operationsFit noneOf
-    flyingLast countsRight shapeOf notesFit notesFitFrom notesShaped isTaken begunOf invokeOf returnOf newLinearizability notesWith
+    flyingLast countsRight shapeOf notesFit notesFitFrom notesIn isTaken begunOf invokeOf returnOf newLinearizability notesWith
     linearizabilityInvoke linearizabilityReturn rowsOf notesOf numberOf toldOf judgedOf judgeOf threadsOf judgedReport reportOf headOf
     bytesOf
 linearizability-bytes budget h =

@@ -14,7 +14,7 @@ use families::placing::fits;
 use families::placing::given;
 use families::placing::held_of;
 use families::placing::take_back;
-use recording::linearizability::NOTES;
+use shape::notes::NOTES;
 use stepping::history::History;
 use values::held::Held;
 use values::held::Undo;

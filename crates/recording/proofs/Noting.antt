@@ -20,10 +20,11 @@ use Rattle.recording.specs.declared.linearizability.LinearizabilityTeste
 use Rattle.stepping.specs.Record.{findFlying}
 use Rattle.stepping.specs.Shape.{kindOf}
 use Rattle.stepping.specs.EventSteps.{isTaken, unless, refuse, owned, invokeBy, invokeOf}
-use Rattle.recording.specs.Testers.{shapedTester, notesWith, notesAfter, linearizabilityAfter, invokedBy, linearizabilityInvoke}
+use Rattle.recording.specs.Testers.{shapedTester, notesAfter, linearizabilityAfter, invokedBy, linearizabilityInvoke}
+use Rattle.shape.specs.Notes.{notesWith}
 use Rattle.stepping.specs.RecordLaws.{never}
-use Rattle.recording.specs.Pass.{notedAt}
-use Rattle.recording.specs.NotesLaws.{noted-in}
+use Rattle.shape.specs.Notes.{notedAt}
+use Rattle.shape.specs.NotesLaws.{noted-in}
 
 -- there is room, and the thread is one of the eight
 pub taken-in : (shaped : Bool) (h : History) (t : ℕ) (op : Op) (s : Step) → s ≡ invokeOf shaped h t op → isTaken (s .recorded) ≡ true

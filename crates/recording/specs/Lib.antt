@@ -1,3 +1,1 @@
 pub mod Testers
-pub mod Pass
-pub mod NotesLaws

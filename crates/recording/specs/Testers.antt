@@ -1,9 +1,8 @@
 -- What each public call of the two testers hands back.
-use Prim.Native.Nat.{ℕ, zero, suc, _+_, _*_}
-use mathlib.Core.Bool.{Bool, true, false}
+use Prim.Native.Nat.{ℕ, _*_}
+use mathlib.Core.Bool.{Bool, true}
 use mathlib.Core.List.{List}
-use lib.ListN.{getD, set, replicate}
-use lib.Dec.{leb}
+use lib.ListN.{replicate}
 use Rattle.values.specs.Value.{pick}
 use Rattle.values.specs.Sizes.{threads, capacity}
 use Rattle.families.specs.declared.Object.{Object}
@@ -17,8 +16,8 @@ use Rattle.recording.specs.declared.sequential_consistency.After.{After 
 use Rattle.recording.specs.declared.linearizability.LinearizabilityTester.{LinearizabilityTester}
 use Rattle.recording.specs.declared.linearizability.New.{New as LNew}
 use Rattle.recording.specs.declared.linearizability.After.{After as LAfter}
-use Rattle.stepping.specs.Record.{held}
-use Rattle.stepping.specs.Shape.{notable, notesFitFrom, shapedWith}
+use Rattle.stepping.specs.Shape.{shapedWith}
+use Rattle.shape.specs.Notes.{notesIn, notesWith}
 use Rattle.stepping.specs.EventSteps.{isTaken, begunOf, invokeOf, returnOf, sizeOf}
 
 -- the sequential tester: the history alone
@@ -55,19 +54,12 @@ linearizability h notes = record { history = h; notes = notes }
 unfoldable pub newLinearizability : Object → LNew
 newLinearizability start = record { made = begunOf start .made; tester = linearizability (begunOf start .history) (replicate (capacity * threads) 0) }
 
--- the notes in shape, beside a history that is not too long
-unfoldable pub notesShaped : LinearizabilityTester → Bool
-notesShaped t =
-    pick (leb (t .history .count) capacity) (notesFitFrom (t .history .done) (t .notes) 0 (held (t .history))) false
+abbrev pub notesShaped : LinearizabilityTester → Bool
+notesShaped t = notesIn (t .history) (t .notes)
 
 -- both the history and its notes in shape
 abbrev pub shapedTester : LinearizabilityTester → Bool
 shapedTester t = shapedWith (notesShaped t) (t .history)
-
--- the first n notes of the operation at place i, of thread `own`: of each other thread, how many have completed
-unfoldable pub notesWith : List ℕ → ℕ → ℕ → List ℕ → ℕ → List ℕ
-notesWith done own i notes zero = notes
-notesWith done own i notes (suc u) = set (notesWith done own i notes u) (i * threads + u) (notable (getD done u 0) own u)
 
 -- an invocation that is taken gets the place behind the operations held
 abbrev pub notesAfter : LinearizabilityTester → ℕ → Step → List ℕ

@@ -1,6 +1,6 @@
 // What both testers share: recording an event, and how many operations are held.
-use crate::shape::look_at;
 use families::event::Event;
+use shape::look_at;
 use stepping::history::History;
 use stepping::recorded::is_taken;
 use stepping::refusal::valid_after;

@@ -3,4 +3,3 @@
 pub mod consistency_tester;
 pub mod linearizability;
 pub mod sequential_consistency;
-pub mod shape;

@@ -1,10 +1,10 @@
 // A tester of sequential consistency: it records what happens and keeps no notes.
 use crate::consistency_tester;
-use crate::shape::look_at;
 use families::Object;
 use families::Op;
 use families::Ret;
 use families::event::Event;
+use shape::look_at;
 use stepping::history::History;
 use stepping::history::begin;
 use stepping::recorded::Made;

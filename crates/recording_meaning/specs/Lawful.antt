@@ -22,7 +22,8 @@ use Rattle.stepping.specs.Record.{fresh, invalidated, extended, completed}
 use Rattle.stepping.specs.Shape.{shapeOf}
 use Rattle.recording.specs.Testers.{notesShaped}
 use Rattle.stepping.specs.EventSteps.{isTaken, step, begunOf, invokeOf, returnOf, sizeOf}
-use Rattle.recording.specs.Testers.{sequential, newSequential, sequentialInvoke, sequentialReturn, sequentialInvret, sequentialLen, linearizability, notesWith, notesAfter, newLinearizability, linearizabilityInvoke, linearizabilityReturn, linearizabilityInvret, linearizabilityLen}
+use Rattle.recording.specs.Testers.{sequential, newSequential, sequentialInvoke, sequentialReturn, sequentialInvret, sequentialLen, linearizability, notesAfter, newLinearizability, linearizabilityInvoke, linearizabilityReturn, linearizabilityInvret, linearizabilityLen}
+use Rattle.shape.specs.Notes.{notesWith}
 use Rattle.recording_meaning.specs.Reading.{Sized, notesOf}
 use Rattle.recording_meaning.specs.Beginning.{begun-is}
 use Rattle.recording_meaning.specs.Parts.{pick-left, pick-right, pick-both, Parts, parts-of, of-parts}

@@ -20,7 +20,7 @@ use Rattle.recording.specs.declared.linearizability.LinearizabilityTester.{Line
 use Rattle.stepping.specs.Record.{operation, blankOperation, held, operationAt, extended, completed}
 use Rattle.stepping.specs.Shape.{noteAt, notable, notesFit, notesFitFrom}
 use Rattle.recording.specs.Testers.{notesShaped}
-use Rattle.recording.specs.Testers.{notesWith}
+use Rattle.shape.specs.Notes.{notesIn, notesWith}
 use Rattle.recording_meaning.specs.Reading.{Sized}
 use Rattle.recording_meaning.specs.Parts.{pick-left, pick-right, pick-both, below-each, each-below}
 use Rattle.recording_meaning.specs.Noting.{with-before, with-own}
@@ -59,7 +59,7 @@ module _ (s : LinearizabilityTester) (z : Sized (s .history)) where
   at-held i l = getD-take (s .history .count) (s .history .ops) i blankOperation l
 
   pub notes-parts : notesShaped s ≡ true → NotesParts (s .history) (s .notes)
-  unfolding notesShaped notesFit
+  unfolding notesIn notesFit
   notes-parts e =
       let few : s .history .count ≤ capacity = leb-true _ _ (pick-left (leb (s .history .count) capacity) _ e) in
       record {
@@ -73,7 +73,7 @@ module _ (s : LinearizabilityTester) (z : Sized (s .history)) where
       }
 
   pub of-notes-parts : NotesParts (s .history) (s .notes) → notesShaped s ≡ true
-  unfolding notesShaped notesFit
+  unfolding notesIn notesFit
   of-notes-parts w =
       pick-both (leb (s .history .count) capacity) _ (le-leb _ _ (w .few))
       (at-fit (s .history .done) (s .notes) 0 (held (s .history)) (λ k j e l.

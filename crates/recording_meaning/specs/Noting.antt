@@ -15,7 +15,7 @@ use Rattle.values.specs.Sizes.{threads, capacity}
 use Rattle.families.specs.Families.{families}
 use Rattle.stepping.specs.declared.history.History.{History}
 use Rattle.stepping.specs.Shape.{noteAt, notable}
-use Rattle.recording.specs.Testers.{notesWith}
+use Rattle.shape.specs.Notes.{notesWith}
 use Rattle.recording_meaning.specs.Reading.{notesOf, rowsOf}
 use Rattle.recording_meaning.specs.Parts.{Parts}
 use Rattle.recording_meaning.specs.Rowing.{rows-many}

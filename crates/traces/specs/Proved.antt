@@ -18,9 +18,9 @@ use Rattle.families.specs.Objects.{newRegister, newOnce, newStack}
 use Rattle.families.specs.States.{stateOf}
 use Rattle.stepping.specs.Record.{fresh, isPending, flyingBy, flyingFrom, findFlying}
 use Rattle.stepping.specs.Shape.{doneBy, countDone, notable, allBelow, outcomeFits, operationFits, operationsFit, noneOf, flyingLast, countsRight, shapeOf, notesFit, notesFitFrom}
-use Rattle.recording.specs.Testers.{notesShaped}
 use Rattle.stepping.specs.EventSteps.{reasonNumber, numberOf, isTaken, breaks, validAfter, begunOf, invokeOf, returnOf, sizeOf}
-use Rattle.recording.specs.Testers.{newSequential, sequentialInvoke, sequentialReturn, sequentialLen, newLinearizability, notesWith, linearizabilityInvoke, linearizabilityReturn, linearizabilityLen}
+use Rattle.recording.specs.Testers.{newSequential, sequentialInvoke, sequentialReturn, sequentialLen, newLinearizability, linearizabilityInvoke, linearizabilityReturn, linearizabilityLen}
+use Rattle.shape.specs.Notes.{notesIn, notesWith}
 use Rattle.recording_meaning.specs.Reading.{rowsOf, notesOf}
 use Rattle.recording_meaning.specs.Models.{Model, sequentialModel, linearizabilityModel}
 use Rattle.recording_meaning.specs.Inputs.{feed}
@@ -51,7 +51,7 @@ pub all-hold : (later : Events families) → AllHold (traces later)
 unfolding zigzag eqZ maybeCoded sameCoded registerAnswer registerAfter registerRetCoded writes writeAnswer onceAnswer onceAfter onceRetCoded stackAnswer stackAfter
     stackRetCoded depthCheck lowCheck heldValues retCoded answers right after sameRet refusalNumber familyOf opFamily retFamily familyNumber familyCheck opBelongs retBelongs isClear startCheck shapeCheck sizeCheck inOrder newRegister newOnce newStack stateOf fresh isPending flyingBy
     flyingFrom findFlying doneBy countDone notable allBelow outcomeFits operationFits operationsFit noneOf flyingLast countsRight shapeOf notesFit
-    notesFitFrom notesShaped reasonNumber numberOf isTaken breaks validAfter begunOf invokeOf returnOf sizeOf newSequential sequentialInvoke sequentialReturn sequentialLen
+    notesFitFrom notesIn reasonNumber numberOf isTaken breaks validAfter begunOf invokeOf returnOf sizeOf newSequential sequentialInvoke sequentialReturn sequentialLen
     newLinearizability notesWith linearizabilityInvoke linearizabilityReturn linearizabilityLen rowsOf notesOf withoutOrder toldOf judgedOf judgeOf
 all-hold later =
     rw (

@@ -1,7 +1,7 @@
 // The checker for a tester of sequential consistency.
 use crate::replay::replay;
-use recording::linearizability::NOTES;
 use recording::sequential_consistency::SequentialConsistencyTester;
+use shape::notes::NOTES;
 ghost use mathlib.Core.Path.{_≡_};
 ghost use Rattle.recording_meaning.specs.Models.{sequentialModel};
 ghost use Rattle.witness.specs.Checking.{checkOf};

@@ -7,6 +7,7 @@ use borrow.Author.Needs.{needs}
 use Rattle.values.specs.Sizes.{threads, capacity}
 use Rattle.stepping.specs.EventSteps.{isTaken}
 use Rattle.stepping.specs.Admitting.{event-fits, event-taken, event-refused}
+use Rattle.shape.specs.Marking.{looks}
 use Rattle.recording.proofs.consistency_tester.record_event.Statement.{statement}
 use Rattle.recording.proofs.consistency_tester.record_event.Tie as tie
 
@@ -23,7 +24,7 @@ fit : (c : tie.After-thread-of) → (c .thread-of .result < threads) × (c .befo
 fit c =
     let r = came c in
     let s = at-start r in
-    let w = event-fits (s .args .noted) (s .args .t1) _ _ (r .before .before .before .before .look-at .ensures) (s .args .event) _ (r .comes-to .ensures) (taken c) in
+    let w = event-fits (s .args .noted) (s .args .t1) _ _ (looks _ _ _ (r .before .before .before .before .look-at .ensures)) (s .args .event) _ (r .comes-to .ensures) (taken c) in
     (omega (arith, w .known, c .thread-of .ensures), omega (arith, w .room, c .before .place-for .ensures))
 
 look-at-requires : tie.Need-look-at-requires
@@ -70,7 +71,7 @@ returns c =
     let p = c .before .before .before .before in
     let r = came p in
     let s = at-start r in
-    event-taken (s .args .noted) (s .args .t1) _ _ (r .before .before .before .before .look-at .ensures) (s .args .event) _ (r .comes-to .ensures)
+    event-taken (s .args .noted) (s .args .t1) _ _ (looks _ _ _ (r .before .before .before .before .look-at .ensures)) (s .args .event) _ (r .comes-to .ensures)
     (taken p) _ _ _ (p .before .place-for .ensures) (p .thread-of .ensures) (c .before .change-of .ensures)
 
 valid-after-requires : tie.Need-valid-after-requires
@@ -80,7 +81,7 @@ returns-2 : tie.Need-returns-2
 returns-2 c =
     let r = c .before .before .before in
     let s = at-start r in
-    event-refused (s .args .noted) (s .args .t1) _ _ (r .before .before .before .before .look-at .ensures) (s .args .event) _ (r .comes-to .ensures)
+    event-refused (s .args .noted) (s .args .t1) _ _ (looks _ _ _ (r .before .before .before .before .look-at .ensures)) (s .args .event) _ (r .comes-to .ensures)
     (sym (c .before .before .is-taken .ensures) ∙ c .before .if1 .left) _ (c .valid-after .ensures)
 
 pub record-event-spec : {M : Type 1} → statement M

@@ -1,0 +1,4 @@
+pub mod Notes
+pub mod NotesLaws
+pub mod Pass
+pub mod Marking
