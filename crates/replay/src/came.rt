@@ -1,7 +1,7 @@
 // What a line came to: a start, an event of which nothing is said, an answer that agrees or differs, none of these.
 // By number, as the lists are: what is built of enums is dearer to check.
-use crate::fields::NONE;
-use crate::fields::natural;
+use lists::fields::NONE;
+use lists::fields::natural;
 
 pub const STARTED: u64 = 0;
 

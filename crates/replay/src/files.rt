@@ -2,14 +2,15 @@
 // of it.
 use crate::came;
 use crate::came::judged;
-use crate::fields::first;
-use crate::fields::from;
-use crate::fields::natural;
-use crate::numbers::LONGEST;
-use crate::numbers::line_end;
-use crate::numbers::read;
-use crate::tally::COUNTS;
-use crate::tally::with_line;
+use lists::bytes::lay;
+use lists::bytes::part;
+use lists::fields::first;
+use lists::fields::fits;
+use lists::fields::from;
+use lists::fields::narrow;
+use lists::fields::natural;
+use lists::fields::wide;
+use lists::lines::LONGEST;
 
 // The most zeros at the end of a file, room for the longest file, and for the longest buffer.
 const ZEROS: usize = 70000;
@@ -41,49 +42,9 @@ fn marked() -> [u8; ROOM] {
     buffer
 }
 
-// f1 … fn: the bytes that a file begins with. Behind them are zeros.
-fn file_at(bytes: &[u64]) -> [u8; FILE] {
-    let mut file = [0u8; FILE];
-    let mut i = 0;
-    while i < bytes.len() {
-        let byte = natural(bytes, i);
-        if i < FILE {
-            if byte <= 255 {
-                file[i] = byte as u8;
-            }
-        }
-        i += 1;
-    }
-    file
-}
-
-fn part(storage: &[u8], length: usize) -> &[u8] {
-    if length <= storage.len() {
-        return &storage[0..length];
-    }
-    &storage[..0]
-}
-
-fn are_bytes(numbers: &[u64]) -> bool {
-    let mut i = 0;
-    while i < numbers.len() {
-        if 255 < natural(numbers, i) {
-            return false;
-        }
-        i += 1;
-    }
-    true
-}
-
-// R k a1 … ak to the end of the line: whether it can be an answer.
-fn is_answer(said: &[u64]) -> bool {
-    let count = natural(said, 1);
-    if count <= ANSWER as u64 {
-        if said.len() as u64 == 2 + count {
-            return are_bytes(from(said, 2));
-        }
-    }
-    false
+// Storage for a file, of zeros. Handed out by a function, so that only its length is known where it is lent.
+fn blank() -> [u8; FILE] {
+    [0; FILE]
 }
 
 // Whether a buffer may hold this byte at a place after a call that has to return this number and to write
@@ -122,64 +83,82 @@ fn call(file: &[u8], model: u32, budget: u64, buffer: &mut [u8], room: usize) ->
     u32::MAX
 }
 
-// Whether the call comes to what is said: R k a1 … ak.
-fn comes_to(file: &[u8], model: u32, budget: u64, room: usize, said: &[u64]) -> bool {
+// MODEL HIGH LOW ROOM: whether the call on the file comes to what is said, R k a1 … ak.
+fn comes_to(file: &[u8], fields: &[u64], said: &[u64]) -> bool {
+    let model = narrow(natural(fields, 0));
+    let budget = wide(natural(fields, 1), natural(fields, 2));
     let number = natural(said, 0);
     let mut buffer = marked();
-    let given = call(file, model, budget, &mut buffer, room);
+    let given = call(
+        file,
+        model,
+        budget,
+        &mut buffer,
+        natural(fields, 3) as usize,
+    );
     given as u64 == number && holds(&buffer, number, from(said, 2))
 }
 
-// The file, and of the line MODEL HIGH LOW ROOM and R k a1 … ak.
-fn asked(file: &[u8], fields: &[u64], said: &[u64]) -> u64 {
-    let model = natural(fields, 0);
-    let high = natural(fields, 1);
-    let low = natural(fields, 2);
-    let room = natural(fields, 3);
-    if model <= u32::MAX as u64 {
-        if high <= u32::MAX as u64 {
-            if low <= u32::MAX as u64 {
-                if room <= ROOM as u64 {
-                    let budget = (high << 32) | low;
-                    return judged(comes_to(file, model as u32, budget, room as usize, said));
-                }
+// MODEL HIGH LOW ROOM: whether there can be such a call.
+fn is_call(fields: &[u64]) -> bool {
+    if fits(natural(fields, 0)) {
+        if fits(natural(fields, 1)) {
+            if fits(natural(fields, 2)) {
+                return natural(fields, 3) <= ROOM as u64;
             }
         }
     }
-    came::UNREADABLE
+    false
 }
 
-// Z n f1 … fn R k a1 … ak: R and what follows.
-fn said_at(fields: &[u64]) -> &[u64] {
-    let count = natural(fields, 1);
-    if count <= LONGEST as u64 {
-        return from(from(fields, 2), count as usize);
+// R k a1 … ak: whether there can be such an answer.
+fn is_answer(said: &[u64]) -> bool {
+    let count = natural(said, 1);
+    if count <= ANSWER as u64 {
+        return said.len() as u64 == 2 + count;
     }
-    from(fields, fields.len())
+    false
 }
 
-// MODEL HIGH LOW ROOM Z n f1 … fn R k a1 … ak
-fn compared(fields: &[u64]) -> u64 {
-    let zeros = natural(fields, 4);
-    let count = natural(fields, 5);
-    if zeros <= ZEROS as u64 {
-        if count <= LONGEST as u64 {
-            let bytes = first(from(fields, 6), count as usize);
-            let said = said_at(from(fields, 4));
-            if are_bytes(bytes) {
-                if is_answer(said) {
-                    let storage = file_at(bytes);
-                    let file = part(&storage, (count + zeros) as usize);
-                    return asked(file, fields, said);
-                }
-            }
+// R k a1 … ak
+fn said_at(fields: &[u64]) -> &[u64] {
+    from(from(fields, 6), natural(fields, 5) as usize)
+}
+
+// The length of a file of so many bytes and zeros; past the storage where there are too many.
+fn end_of(bytes: usize, zeros: u64) -> usize {
+    if bytes <= LONGEST {
+        if zeros <= ZEROS as u64 {
+            return bytes + zeros as usize;
+        }
+    }
+    FILE + 1
+}
+
+// MODEL HIGH LOW ROOM Z n f1 … fn R k a1 … ak: whether it can be read.
+fn is_readable(fields: &[u64]) -> bool {
+    if is_call(fields) {
+        if natural(fields, 4) <= ZEROS as u64 {
+            return is_answer(said_at(fields));
+        }
+    }
+    false
+}
+
+pub fn compared(fields: &[u64]) -> u64 {
+    if is_readable(fields) {
+        let bytes = first(from(fields, 6), natural(fields, 5) as usize);
+        let mut storage = blank();
+        if lay(bytes, &mut storage) {
+            let length = end_of(bytes.len(), natural(fields, 4));
+            return judged(comes_to(part(&storage, length), fields, said_at(fields)));
         }
     }
     came::UNREADABLE
 }
 
 // The group of a line: the model that is asked for, or 2 where there is none.
-fn group(fields: &[u64]) -> u64 {
+pub fn group(fields: &[u64]) -> u64 {
     let model = natural(fields, 0);
     if model <= 1 {
         return model;
@@ -188,8 +167,8 @@ fn group(fields: &[u64]) -> u64 {
 }
 
 // What is said of the call: 0 where a capture is judged, 1 where the file is refused, 2 where the call is.
-fn outcome(fields: &[u64]) -> u64 {
-    let said = said_at(from(fields, 4));
+pub fn outcome(fields: &[u64]) -> u64 {
+    let said = said_at(fields);
     if natural(said, 0) != 0 {
         return 2;
     }
@@ -197,19 +176,4 @@ fn outcome(fields: &[u64]) -> u64 {
         return 1;
     }
     0
-}
-
-pub fn replay(text: &[u8]) -> [u64; COUNTS] {
-    let mut counts = [0; COUNTS];
-    let mut line = [0; LONGEST];
-    let mut at = 0;
-    while at < text.len() {
-        let end = line_end(text, at);
-        let count = read(text, at, &mut line);
-        let numbers = first(&line, count);
-        let came = compared(numbers);
-        with_line(&mut counts, came, group(numbers), outcome(numbers));
-        at = end;
-    }
-    counts
 }

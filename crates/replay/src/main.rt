@@ -3,28 +3,23 @@
 // what calls of the host on corpus files come to. The lists stand in data/; bench/ makes them, and its README
 // describes their lines.
 mod bare;
-mod calls;
 mod came;
 mod codes;
-mod events;
-mod fields;
 mod files;
-mod lists;
-mod numbers;
-mod objects;
+mod list;
 mod proposals;
 mod sequences;
 mod tally;
 mod telling;
 mod verdicts;
 
-use lists::EVENTS;
-use lists::FILES;
-use lists::HISTORIES;
-use lists::OBJECTS;
-use lists::ORDERS;
+use list::EVENTS;
+use list::FILES;
+use list::HISTORIES;
+use list::OBJECTS;
+use list::ORDERS;
+use lists::telling::say;
 use tally::COUNTS;
-use telling::say;
 use telling::say_tally;
 
 // Room for the longest list.
@@ -33,9 +28,6 @@ const TEXT: usize = 2000000;
 fn counted(list: u64, text: &[u8]) -> [u64; COUNTS] {
     if list == OBJECTS {
         return bare::replay(text);
-    }
-    if list == FILES {
-        return files::replay(text);
     }
     sequences::replay(list, text)
 }
@@ -52,6 +44,7 @@ fn read(fd: i32, list: u64) {
     let length = io::read_full(fd, &mut text);
     if length == TEXT {
         say(b"the list is too long\n");
+        return;
     }
     let counts = counted(list, &text[..length]);
     say_tally(list, &counts);

@@ -1,121 +1,56 @@
-// The lists of events, histories and orders. Both testers live on from line to line, up to the next one that
-// starts anew.
+// The lists of events, histories and orders, and that of files. Both testers live on from line to line, up to the next one
+// that starts anew.
 use crate::came;
 use crate::came::family_after;
 use crate::came::judged;
-use crate::events::BOTH;
-use crate::events::INVOKE;
-use crate::events::RETURN;
-use crate::events::event_at;
-use crate::events::said_at;
-use crate::fields::NONE;
-use crate::fields::first;
-use crate::fields::from;
-use crate::fields::natural;
-use crate::lists::EVENTS;
-use crate::lists::HISTORIES;
-use crate::numbers::LONGEST;
-use crate::numbers::line_end;
-use crate::numbers::read;
-use crate::objects::blank;
-use crate::objects::object_at;
+use crate::files;
+use crate::list::EVENTS;
+use crate::list::FILES;
+use crate::list::HISTORIES;
 use crate::proposals;
 use crate::tally::COUNTS;
-use crate::tally::call_of;
-use crate::tally::with_line;
+use crate::tally::count_line;
 use crate::verdicts;
+use lists::events;
+use lists::events::BOTH;
+use lists::events::INVOKE;
+use lists::events::RETURN;
+use lists::events::START;
+use lists::events::event_at;
+use lists::fields::NONE;
+use lists::fields::from;
+use lists::fields::natural;
+use lists::lines::LONGEST;
+use lists::lines::begun;
+use lists::lines::whole;
+use lists::lines::with_byte;
+use lists::starts::object_of;
 use testers::Answer;
-use testers::Answers;
 use testers::Testers;
 
-// The number of a line that could not be read: no tester gives it.
-const UNREAD: u8 = 255;
-
-fn unread(testers: Testers) -> Answers {
-    let none = Answer {
-        number: UNREAD,
-        len: 0,
-    };
-    Answers {
-        linearizability: none,
-        sequential: none,
-        testers,
-    }
+fn is(answer: Answer, number: u8, len: u64) -> bool {
+    answer.number == number && answer.len as u64 == len
 }
 
-// F n v1 … vn: fresh testers of the object.
-fn begun(fields: &[u64]) -> Answers {
-    let made = object_at(fields);
-    let object = made.object;
-    let new = Testers::new(object);
-    if made.readable {
-        return new;
-    }
-    unread(new.testers)
+fn both_are(a: Answer, b: Answer, number: u8, len: u64) -> bool {
+    is(a, number, len) && is(b, number, len)
 }
 
-// A line that starts anew or has an event.
-fn fed(testers: Testers, family: u64, numbers: &[u64]) -> Answers {
-    let lead = natural(numbers, 0);
-    let fields = from(numbers, 1);
-    if lead == 0 {
-        return begun(fields);
-    }
-    let event = event_at(lead, family, fields);
-    let op = event.op;
-    let ret = event.ret;
-    if family != NONE && event.good {
-        if lead == INVOKE {
-            return testers.on_invoke(event.thread, op);
-        }
-        if lead == RETURN {
-            return testers.on_return(event.thread, ret);
-        }
-        return testers.on_invret(event.thread, op, ret);
-    }
-    unread(testers)
-}
-
-// What such a line came to, where the testers answered so.
-fn came_of(list: u64, refused: bool, a: Answer, b: Answer, numbers: &[u64]) -> u64 {
-    let lead = natural(numbers, 0);
-    if a.number == UNREAD {
-        return came::UNREADABLE;
-    }
-    if lead == 0 {
-        return taken(a, b);
-    }
-    if list == EVENTS {
-        return heard(refused, lead, a, b, said_at(lead, from(numbers, 1)));
-    }
-    came::FED
-}
-
-// Testers of an object that they refuse are as good as none.
-fn taken(a: Answer, b: Answer) -> u64 {
-    if both_are(a, b, 0, 0) {
+// F n v1 … vn: testers of an object that they refuse are as good as none.
+fn taken(a: Answer, b: Answer, fields: &[u64]) -> u64 {
+    let made = object_of(natural(fields, 0), from(fields, 1));
+    if made.good && both_are(a, b, 0, 0) {
         return came::STARTED;
     }
     came::UNREADABLE
 }
 
-// Y L: what the list says of an event.
-fn heard(refused: bool, lead: u64, a: Answer, b: Answer, said: &[u64]) -> u64 {
-    let ok = natural(said, 0);
-    if said.len() == 2 {
-        if ok == 1 {
-            return judged(both_are(a, b, 0, natural(said, 1)));
-        }
-        if ok == 0 {
-            return judged(both_are(a, b, refusal(refused, lead), natural(said, 1)));
-        }
+// The number of an event: 0 where the Rust said Ok, Y is 1. Where it said Err, 1 after an earlier one; else 5 for a return,
+// which then had nothing in flight, and 4 for an invoke, whose thread then was busy.
+fn number_due(ok: u64, refused: bool, lead: u64) -> u8 {
+    if ok == 1 {
+        return 0;
     }
-    came::UNREADABLE
-}
-
-// The number of an event for which the Rust said Err: 1 after an earlier one; else 5 for a return, which
-// then had nothing in flight, and 4 for an invoke, whose thread then was busy.
-fn refusal(refused: bool, lead: u64) -> u8 {
     if refused {
         return 1;
     }
@@ -125,89 +60,118 @@ fn refusal(refused: bool, lead: u64) -> u8 {
     4
 }
 
-fn both_are(a: Answer, b: Answer, number: u8, len: u64) -> bool {
-    is(a, number, len) && is(b, number, len)
-}
-
-fn is(answer: Answer, number: u8, len: u64) -> bool {
-    answer.number == number && answer.len as u64 == len
-}
-
-// Whether the list has said Err of an event since the last start.
-fn refused_after(refused: bool, numbers: &[u64]) -> bool {
+// T, the event, Y L to the end of the line: the last two.
+fn said_at(numbers: &[u64]) -> &[u64] {
     let lead = natural(numbers, 0);
-    if lead == 0 {
-        return false;
+    if lead == INVOKE {
+        return from(numbers, 4);
     }
-    refused || natural(said_at(lead, from(numbers, 1)), 0) == 0
+    if lead == RETURN {
+        return from(numbers, 5);
+    }
+    from(numbers, 7)
 }
 
-// Whether a line asks about the events so far: in the list of events that number begins an event.
-fn is_asked(list: u64, numbers: &[u64]) -> bool {
-    list != EVENTS && natural(numbers, 0) == BOTH
+// What the testers answered to an event, compared with what the list of events says of it.
+fn heard(refused: bool, a: Answer, b: Answer, numbers: &[u64]) -> u64 {
+    let said = said_at(numbers);
+    let ok = natural(said, 0);
+    if 1 < ok {
+        return came::UNREADABLE;
+    }
+    if said.len() != 2 {
+        return came::UNREADABLE;
+    }
+    let number = number_due(ok, refused, natural(numbers, 0));
+    judged(both_are(a, b, number, natural(said, 1)))
 }
 
-fn asked(list: u64, testers: Testers, family: u64, fields: &[u64]) -> u64 {
+// An event, fed to testers of an object of that family, which answered so.
+fn fed(list: u64, family: u64, refused: bool, a: Answer, b: Answer, numbers: &[u64]) -> u64 {
+    let event = event_at(family, numbers);
+    if event.good {
+        if list == EVENTS {
+            return heard(refused, a, b, numbers);
+        }
+        return came::FED;
+    }
+    came::UNREADABLE
+}
+
+// Whether a line asks about the events so far, or about a file: it is no event then.
+fn is_question(list: u64, lead: u64) -> bool {
+    if list == FILES {
+        return true;
+    }
+    list != EVENTS && lead == BOTH
+}
+
+// The answer to a question, compared.
+fn asked(list: u64, testers: Testers, family: u64, numbers: &[u64]) -> u64 {
+    if list == FILES {
+        return files::compared(numbers);
+    }
     if family == NONE {
         return came::UNREADABLE;
     }
     if list == HISTORIES {
-        return verdicts::compared(testers, family, fields);
+        return verdicts::compared(testers, family, from(numbers, 1));
     }
-    proposals::compared(testers, fields)
+    proposals::compared(testers, from(numbers, 1))
 }
 
-// What a line came to, and the testers that it left.
-struct Lived {
-    came: u64,
-    testers: Testers,
-}
-
-// A line with these numbers.
-fn with_numbers(list: u64, testers: Testers, family: u64, refused: bool, numbers: &[u64]) -> Lived {
-    if is_asked(list, numbers) {
-        let came = asked(list, testers, family, from(numbers, 1));
-        return Lived { came, testers };
+// What a line with an object or an event came to, of testers that answered so.
+fn told(list: u64, family: u64, refused: bool, a: Answer, b: Answer, numbers: &[u64]) -> u64 {
+    if natural(numbers, 0) == START {
+        return taken(a, b, from(numbers, 1));
     }
-    let answers = fed(testers, family, numbers);
-    let a = answers.linearizability;
-    let b = answers.sequential;
-    let testers = answers.testers;
-    let came = came_of(list, refused, a, b, numbers);
-    Lived { came, testers }
-}
-
-// An answer by the model that it is about, in the list of events by the number that begins the line.
-fn call_at(list: u64, numbers: &[u64]) -> u64 {
-    if list == EVENTS {
-        return call_of(numbers);
+    if family == NONE {
+        return came::UNREADABLE;
     }
-    natural(numbers, 1)
+    fed(list, family, refused, a, b, numbers)
 }
 
-fn nothing() -> Testers {
-    let new = Testers::new(blank(0));
-    new.testers
+// Whether the list has said Err of an event since the last start.
+fn refused_after(refused: bool, numbers: &[u64]) -> bool {
+    if natural(numbers, 0) == START {
+        return false;
+    }
+    refused || natural(said_at(numbers), 0) == 0
 }
 
 pub fn replay(list: u64, text: &[u8]) -> [u64; COUNTS] {
     let mut counts = [0; COUNTS];
     let mut line = [0; LONGEST];
-    let mut testers = nothing();
+    let mut reading = begun();
+    let mut answers = events::begun(&line);
     let mut family = NONE;
     let mut refused = false;
     let mut at = 0;
     while at < text.len() {
-        let end = line_end(text, at);
-        let count = read(text, at, &mut line);
-        let numbers = first(&line, count);
-        let lived = with_numbers(list, testers, family, refused, numbers);
-        let came = lived.came;
-        testers = lived.testers;
-        with_line(&mut counts, came, family, call_at(list, numbers));
-        refused = refused_after(refused, numbers);
-        family = family_after(came, family, numbers);
-        at = end;
+        let byte = text[at];
+        at += 1;
+        reading = with_byte(reading, byte, &mut line);
+        if byte == b'\n' {
+            let numbers = whole(reading, &line);
+            let mut came = came::UNREADABLE;
+            if is_question(list, natural(numbers, 0)) {
+                came = asked(list, answers.testers, family, numbers);
+            } else {
+                answers = events::after(answers, family, numbers);
+                came = told(
+                    list,
+                    family,
+                    refused,
+                    answers.linearizability,
+                    answers.sequential,
+                    numbers,
+                );
+            }
+            count_line(&mut counts, list, came, family, numbers);
+            refused = refused_after(refused, numbers);
+            family = family_after(came, family, numbers);
+            reading = begun();
+        }
     }
     counts
 }

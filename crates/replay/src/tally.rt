@@ -1,47 +1,57 @@
 // What was compared, counted in an array. A list asks about three groups by three calls, by their numbers: the
 // families by what was called, or the models by what the call comes to.
 use crate::came;
-use crate::fields::NONE;
-use crate::fields::natural;
+use crate::files;
+use crate::list::EVENTS;
+use crate::list::FILES;
+use crate::list::OBJECTS;
 use crate::telling::name_line;
+use lists::fields::natural;
 
-pub const COUNTS: usize = 16;
+// Five counts to a group, and after the last group five of all lines.
+const EACH: u64 = 5;
 
-// The places of the counts: lines, starts, unreadable lines, and lines that were unreadable or differed.
-pub const LINES: usize = 0;
+pub const ALL: u64 = 3;
 
-pub const STARTS: usize = 1;
+// Then the lines that differ or are unreadable.
+pub const COUNTS: usize = 21;
 
-pub const UNREADABLE: usize = 2;
+// The counts of a group: answers to each of the three calls, and then these.
+pub const AGREED: u64 = 3;
 
-pub const WRONG: usize = 3;
+pub const ASKED: u64 = 4;
 
-// From here on the answers that agree, a place to a group.
-const AGREED: usize = 4;
+// The first counts of all lines, and wrong ones.
+pub const LINES: u64 = 0;
 
-// From here on the answers, three places to a group.
-const ASKED: usize = 7;
+pub const STARTS: u64 = 1;
 
-// The call by its number, which begins the line.
-pub fn call_of(numbers: &[u64]) -> u64 {
-    let lead = natural(numbers, 0);
-    if 0 < lead {
-        return lead - 1;
+pub const UNREADABLE: u64 = 2;
+
+pub const WRONG: u64 = 5;
+
+// Where it is counted; past the end where it is not.
+fn place_of(group: u64, what: u64) -> usize {
+    if group <= ALL {
+        if what <= WRONG {
+            return (group * EACH + what) as usize;
+        }
     }
-    NONE
+    COUNTS
 }
 
-// The count at a place; past the end there is none.
-pub fn count(counts: &[u64], place: usize) -> u64 {
-    if place < counts.len() {
+pub fn count(counts: &[u64; COUNTS], group: u64, what: u64) -> u64 {
+    let place = place_of(group, what);
+    if place < COUNTS {
         return counts[place];
     }
     0
 }
 
-// One more at a place, but for a count that no list reaches.
-fn more(counts: &mut [u64], place: usize) {
-    if place < counts.len() {
+// One more, but for a count that no list reaches.
+fn more(counts: &mut [u64; COUNTS], group: u64, what: u64) {
+    let place = place_of(group, what);
+    if place < COUNTS {
         let count = counts[place];
         if count < u64::MAX {
             counts[place] = count + 1;
@@ -49,56 +59,61 @@ fn more(counts: &mut [u64], place: usize) {
     }
 }
 
-// Where the answers of a group to a call are counted, and those of a group that agree; past the end where there
-// is no such group or call.
-fn asked_at(group: u64, call: u64) -> usize {
-    if group <= 2 {
-        if call <= 2 {
-            return ASKED + 3 * group as usize + call as usize;
+// The group of a line with an answer.
+fn group_at(list: u64, family: u64, numbers: &[u64]) -> u64 {
+    if list == FILES {
+        return files::group(numbers);
+    }
+    family
+}
+
+// The call that is answered: by the number that begins the line, or by the model.
+fn call_at(list: u64, numbers: &[u64]) -> u64 {
+    if list == FILES {
+        return files::outcome(numbers);
+    }
+    if list == OBJECTS || list == EVENTS {
+        let lead = natural(numbers, 0);
+        if 0 < lead {
+            return lead - 1;
         }
     }
-    COUNTS
+    natural(numbers, 1)
 }
 
-fn agreed_at(group: u64) -> usize {
-    if group <= 2 {
-        return AGREED + group as usize;
+// An answer to a call on a group.
+fn count_answer(counts: &mut [u64; COUNTS], came: u64, group: u64, call: u64) {
+    more(counts, group, call);
+    more(counts, group, ASKED);
+    more(counts, ALL, ASKED);
+    if came == came::AGREES {
+        more(counts, group, AGREED);
+        more(counts, ALL, AGREED);
     }
-    COUNTS
-}
-
-pub fn asked(counts: &[u64], group: u64, call: u64) -> u64 {
-    count(counts, asked_at(group, call))
-}
-
-pub fn agreed(counts: &[u64], group: u64) -> u64 {
-    count(counts, agreed_at(group))
-}
-
-// Where a line is counted that came to this; past the end where it is counted as a line alone.
-fn place_of(came: u64, group: u64, call: u64) -> usize {
-    if came == came::STARTED {
-        return STARTS;
-    }
-    if came == came::FED {
-        return COUNTS;
-    }
-    if came == came::UNREADABLE {
-        return UNREADABLE;
-    }
-    asked_at(group, call)
 }
 
 // One line more, and what it came to.
-pub fn with_line(counts: &mut [u64], came: u64, group: u64, call: u64) {
-    more(counts, LINES);
-    more(counts, place_of(came, group, call));
-    if came == came::AGREES {
-        more(counts, agreed_at(group));
+pub fn count_line(counts: &mut [u64; COUNTS], list: u64, came: u64, family: u64, numbers: &[u64]) {
+    more(counts, ALL, LINES);
+    if came == came::STARTED {
+        more(counts, ALL, STARTS);
         return;
     }
-    if came::AGREES < came {
-        more(counts, WRONG);
+    if came == came::FED {
+        return;
+    }
+    if came == came::UNREADABLE {
+        more(counts, ALL, UNREADABLE);
+    } else {
+        count_answer(
+            counts,
+            came,
+            group_at(list, family, numbers),
+            call_at(list, numbers),
+        );
+    }
+    if came != came::AGREES {
+        more(counts, ALL, WRONG);
         name_line(counts, came);
     }
 }

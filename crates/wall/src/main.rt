@@ -1,31 +1,28 @@
-// The traces of document 01 for the bench wall, run, a line each to hold beside it.
-mod bytes;
-mod calls;
-mod events;
+// The traces of document 01 for the bench wall, run, a line each to hold beside it. They stand in data/traces.txt, which
+// begins with what its lines say.
 mod files;
-mod running;
+mod script;
 mod telling;
-mod traces;
+mod trace;
 mod verdicts;
-mod words;
 
-use telling::say;
+// Room for the traces.
+const TEXT: usize = 8192;
+
+// Handed out by a function, so that only its length is known where it is lent.
+fn blank() -> [u8; TEXT] {
+    [0; TEXT]
+}
 
 fn main() {
-    say(
-        b"each order: the threads with their returns; 10 to 12: of each event its number and len after it\n",
-    );
-    say(
-        b"files, 13: the number, the place and what the tester starts with; 14: the host call's number and its answer bytes\n",
-    );
-    traces::traces_1_and_2();
-    traces::traces_3_and_4();
-    traces::traces_5_and_6();
-    traces::trace_7();
-    traces::traces_8_and_9();
-    traces::trace_10();
-    traces::trace_11();
-    traces::trace_12();
-    files::trace_13();
-    files::trace_14();
+    let path = b"traces.txt";
+    let fd = os::open_read(path);
+    if fd < 0 {
+        os::fail(path);
+        return;
+    }
+    let mut text = blank();
+    let length = io::read_full(fd, &mut text);
+    libc::close(fd);
+    script::run(&text[..length]);
 }

@@ -1,5 +1,4 @@
--- `replay::bare::replay` is safe and ends. The invariant: both storages keep their lengths. The measure is the number of bytes left.
-use mathlib.Core.Path.{_≡_}
+-- `replay::bare::replay` is safe and ends. The measure is the number of bytes left.
 use Prim.Native.Nat.{_-_}
 use lib.ListN.{length}
 use borrow.Author.Needs.{needs}
@@ -7,52 +6,55 @@ use Rattle.replay.proofs.bare.replay.Statement.{statement}
 use Rattle.replay.proofs.bare.replay.Tie as tie
 
 abbrev Inv-loop : tie.InvT-loop
-Inv-loop text counts₀ line₀ object₀ family₀ at₀ counts line object family at = (length counts ≡ 16) × (length line ≡ 1200)
+Inv-loop text counts₀ line₀ reading₀ object₀ family₀ at₀ counts line reading object family at = Unit
 
 abbrev μ-loop : tie.MeasureT-loop
-μ-loop text counts₀ line₀ object₀ family₀ at₀ counts line object family at = length text - at
+μ-loop text counts₀ line₀ reading₀ object₀ family₀ at₀ counts line reading object family at = length text - at
 
-blank-requires : tie.Need-blank-requires Inv-loop μ-loop
-blank-requires c κs = search needs
+begun-requires : tie.Need-begun-requires Inv-loop μ-loop
+begun-requires c κs = search needs
+
+default-register-requires : tie.Need-default-register-requires Inv-loop μ-loop
+default-register-requires c κs = search needs
 
 loop-holds : tie.Need-loop-holds Inv-loop μ-loop
 loop-holds c = search needs
 
-line-end-requires : tie.Need-line-end-requires Inv-loop μ-loop
-line-end-requires c κs = search needs
+shared-slice-read-byte : tie.Need-shared-slice-read-byte Inv-loop μ-loop
+shared-slice-read-byte c = search needs
 
-slice-aggregate-read : tie.Need-slice-aggregate-read Inv-loop μ-loop
-slice-aggregate-read c = search needs
+add-at : tie.Need-add-at Inv-loop μ-loop
+add-at c = search needs
 
-read-requires : tie.Need-read-requires Inv-loop μ-loop
-read-requires c κs = search needs
+with-byte-requires : tie.Need-with-byte-requires Inv-loop μ-loop
+with-byte-requires c κs = search needs
 
-slice-aggregate-first : tie.Need-slice-aggregate-first Inv-loop μ-loop
-slice-aggregate-first c = search needs
-
-first-requires : tie.Need-first-requires Inv-loop μ-loop
-first-requires c κs = search needs
+whole-requires : tie.Need-whole-requires Inv-loop μ-loop
+whole-requires c κs = search needs
 
 compared-requires : tie.Need-compared-requires Inv-loop μ-loop
 compared-requires c κs = search needs
 
-slice-aggregate-with-line : tie.Need-slice-aggregate-with-line Inv-loop μ-loop
-slice-aggregate-with-line c = search needs
-
-call-of-requires : tie.Need-call-of-requires Inv-loop μ-loop
-call-of-requires c κs = search needs
-
-with-line-requires : tie.Need-with-line-requires Inv-loop μ-loop
-with-line-requires c κs = search needs
+count-line-requires : tie.Need-count-line-requires Inv-loop μ-loop
+count-line-requires c κs = search needs
 
 family-after-requires : tie.Need-family-after-requires Inv-loop μ-loop
 family-after-requires c κs = search needs
+
+begun-requires-2 : tie.Need-begun-requires-2 Inv-loop μ-loop
+begun-requires-2 c κs = search needs
 
 loop-less : tie.Need-loop-less Inv-loop μ-loop
 loop-less c = search needs
 
 loop-again : tie.Need-loop-again Inv-loop μ-loop
 loop-again c = search needs
+
+loop-less-2 : tie.Need-loop-less-2 Inv-loop μ-loop
+loop-less-2 c = search needs
+
+loop-again-2 : tie.Need-loop-again-2 Inv-loop μ-loop
+loop-again-2 c = search needs
 
 returns : tie.Need-returns Inv-loop μ-loop
 returns c = search needs
@@ -63,18 +65,19 @@ replay-spec =
     (tie.spec
     Inv-loop
     μ-loop
-    blank-requires
+    begun-requires
+    default-register-requires
     loop-holds
-    line-end-requires
-    slice-aggregate-read
-    read-requires
-    slice-aggregate-first
-    first-requires
+    shared-slice-read-byte
+    add-at
+    with-byte-requires
+    whole-requires
     compared-requires
-    slice-aggregate-with-line
-    call-of-requires
-    with-line-requires
+    count-line-requires
     family-after-requires
+    begun-requires-2
     loop-less
     loop-again
+    loop-less-2
+    loop-again-2
     returns)

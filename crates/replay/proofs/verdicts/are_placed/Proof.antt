@@ -1,14 +1,18 @@
 -- `replay::verdicts::are_placed` is safe and ends. The measure is the number of places left.
 use Prim.Native.Nat.{_-_}
+use Rattle.values.specs.Sizes.{capacity}
 use borrow.Author.Needs.{needs}
 use Rattle.replay.proofs.verdicts.are_placed.Statement.{statement}
 use Rattle.replay.proofs.verdicts.are_placed.Tie as tie
 
 abbrev Inv-loop : tie.InvT-loop
-Inv-loop length family order places i₀ i = Unit
+Inv-loop family order places length i₀ i = Unit
 
 abbrev μ-loop : tie.MeasureT-loop
-μ-loop length family order places i₀ i = 64 - i
+μ-loop family order places length i₀ i = capacity - i
+
+length-at-requires : tie.Need-length-at-requires Inv-loop μ-loop
+length-at-requires c κs = search needs
 
 loop-holds : tie.Need-loop-holds Inv-loop μ-loop
 loop-holds c = search needs
@@ -21,6 +25,9 @@ array-copy-out-placed c = search needs
 
 mul-at : tie.Need-mul-at Inv-loop μ-loop
 mul-at c = search needs
+
+add-at : tie.Need-add-at Inv-loop μ-loop
+add-at c = search needs
 
 from-requires : tie.Need-from-requires Inv-loop μ-loop
 from-requires c κs = search needs
@@ -49,10 +56,12 @@ are-placed-spec =
     (tie.spec
     Inv-loop
     μ-loop
+    length-at-requires
     loop-holds
     mul-placed
     array-copy-out-placed
     mul-at
+    add-at
     from-requires
     is-placed-requires
     add-i

@@ -6,40 +6,25 @@ use Rattle.wall.proofs.verdicts.say_order.Statement.{statement}
 use Rattle.wall.proofs.verdicts.say_order.Tie as tie
 
 abbrev Inv-loop : tie.InvT-loop
-Inv-loop number answer length i₀ t7 i = Unit
+Inv-loop family length order i₀ i = Unit
 
 abbrev μ-loop : tie.MeasureT-loop
-μ-loop number answer length i₀ t7 i = capacity - i
-
-slice-aggregate-say : tie.Need-slice-aggregate-say Inv-loop μ-loop
-slice-aggregate-say c = search needs
-
-say-requires : tie.Need-say-requires Inv-loop μ-loop
-say-requires c κs = search needs
-
-returns : tie.Need-returns Inv-loop μ-loop
-returns c = search needs
+μ-loop family length order i₀ i = capacity - i
 
 loop-holds : tie.Need-loop-holds Inv-loop μ-loop
 loop-holds c = search needs
 
-slice-aggregate-say-2 : tie.Need-slice-aggregate-say-2 Inv-loop μ-loop
-slice-aggregate-say-2 c = search needs
-
-say-requires-2 : tie.Need-say-requires-2 Inv-loop μ-loop
-say-requires-2 c κs = search needs
-
 mul-placed : tie.Need-mul-placed Inv-loop μ-loop
 mul-placed c = search needs
 
-element-copy-out-placed : tie.Need-element-copy-out-placed Inv-loop μ-loop
-element-copy-out-placed c = search needs
-
-say-placed-requires : tie.Need-say-placed-requires Inv-loop μ-loop
-say-placed-requires c κs = search needs
+array-copy-out-placed : tie.Need-array-copy-out-placed Inv-loop μ-loop
+array-copy-out-placed c = search needs
 
 add-i : tie.Need-add-i Inv-loop μ-loop
 add-i c = search needs
+
+say-placed-requires : tie.Need-say-placed-requires Inv-loop μ-loop
+say-placed-requires c κs = search needs
 
 loop-less : tie.Need-loop-less Inv-loop μ-loop
 loop-less c = search needs
@@ -47,8 +32,14 @@ loop-less c = search needs
 loop-again : tie.Need-loop-again Inv-loop μ-loop
 loop-again c = search needs
 
-returns-2 : tie.Need-returns-2 Inv-loop μ-loop
-returns-2 c = search needs
+loop-less-2 : tie.Need-loop-less-2 Inv-loop μ-loop
+loop-less-2 c = search needs
+
+loop-again-2 : tie.Need-loop-again-2 Inv-loop μ-loop
+loop-again-2 c = search needs
+
+returns : tie.Need-returns Inv-loop μ-loop
+returns c = search needs
 
 pub say-order-spec : {M : Type 1} → statement M
 say-order-spec =
@@ -56,16 +47,13 @@ say-order-spec =
     (tie.spec
     Inv-loop
     μ-loop
-    slice-aggregate-say
-    say-requires
-    returns
     loop-holds
-    slice-aggregate-say-2
-    say-requires-2
     mul-placed
-    element-copy-out-placed
-    say-placed-requires
+    array-copy-out-placed
     add-i
+    say-placed-requires
     loop-less
     loop-again
-    returns-2)
+    loop-less-2
+    loop-again-2
+    returns)
