@@ -8,8 +8,10 @@ pub const LONGEST: usize = 1200;
 // The count of a line that has anything but numbers, or too many.
 const SPOILT: usize = LONGEST + 1;
 
-// Above every number of the lists.
-const TOO_LARGE: u64 = 4294967296;
+// The largest number that is read, above every number of the lists, and what stands for one that is none or is larger.
+const LARGEST: u64 = 4294967296;
+
+const NO_NUMBER: u64 = LARGEST + 1;
 
 // The size of a number of which no digit is read.
 const NO_DIGIT: u64 = u64::MAX;
@@ -36,27 +38,27 @@ pub fn begun() -> Reading {
     next(0)
 }
 
-// A size with one digit more, which is too large where the byte is no digit; what is too large stays so.
+// A size with one digit more; that of no number stays so.
 fn joined(size: u64, byte: u8) -> u64 {
     if byte < b'0' {
-        return TOO_LARGE;
+        return NO_NUMBER;
     }
     if b'9' < byte {
-        return TOO_LARGE;
+        return NO_NUMBER;
     }
     let digit = (byte - b'0') as u64;
     if size == NO_DIGIT {
         return digit;
     }
-    if TOO_LARGE <= size {
-        return TOO_LARGE;
+    if LARGEST < size {
+        return NO_NUMBER;
     }
     size * 10 + digit
 }
 
 // A number as it is kept; none where there is no such.
 fn kept(size: u64, below: bool) -> u64 {
-    if TOO_LARGE <= size {
+    if LARGEST < size {
         return NONE;
     }
     if below {

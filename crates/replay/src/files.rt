@@ -115,7 +115,10 @@ fn is_call(fields: &[u64]) -> bool {
 fn is_answer(said: &[u64]) -> bool {
     let count = natural(said, 1);
     if count <= ANSWER as u64 {
-        return said.len() as u64 == 2 + count;
+        if said.len() as u64 == 2 + count {
+            let mut answer = [0; ANSWER];
+            return lay(from(said, 2), &mut answer);
+        }
     }
     false
 }
