@@ -1,4 +1,4 @@
--- One step of recording in the code's own terms: what an event comes to, and what it changes. What counts stands in Record and Events; Admitting ties these to it.
+-- One step of recording in the code's own terms: what an event comes to, and what it changes. What counts stands in Record and EventSteps; Admitting ties these to it.
 use Prim.Native.Nat.{ℕ, _+_, _%_, _<_, _≤_}
 use mathlib.Core.Path.{_≡_, refl}
 use mathlib.Core.Bool.{Bool}
