@@ -159,11 +159,13 @@ fn read_start(file: &[u8], at: usize) -> Header
 pub fn read_header(file: &[u8]) -> Header
     ensures { λ r. ⌜ r ≡ asHeader (header (now (file .entry))) ⌝ }
 {
-    if LONGEST < file.len() {
+    let long = LONGEST < file.len();
+    let opened = is_opened(file);
+    if long {
         let why = Refusal::TooLong;
         return refused_for(why);
     }
-    if is_opened(file) {
+    if opened {
         return read_start(file, OPENING);
     }
     let why = Refusal::Unopened;

@@ -37,6 +37,12 @@ unfoldable pub checkedOf : Check → Recorded
 checkedOf Clear = Taken
 checkedOf (CRefused r) = Refused (NotOwn r)
 
+unfoldable pub knownOf : ℕ → Recorded
+knownOf t = unless (ltb t threads) (Refused NoSuchThread) Taken
+
+unfoldable pub inTurn : Recorded → Recorded → Recorded
+inTurn first second = pick (isTaken first) second first
+
 unfoldable pub admitBy : Bool → Bool → Bool → Check → Recorded
 admitBy shaped valid known own =
     unless shaped (Refused OutOfShape) (unless valid (Refused AlreadyInvalid) (unless known (Refused NoSuchThread) (checkedOf own)))

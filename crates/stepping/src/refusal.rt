@@ -8,7 +8,7 @@ use values::sizes::OPERATIONS;
 use values::sizes::THREADS;
 ghost use mathlib.Core.Path.{_≡_};
 ghost use Rattle.stepping.specs.EventSteps.{breaks as breaksOf, validAfter};
-ghost use Rattle.stepping.specs.StepChecks.{placeOf, placeIn, placeAt, checkedOf, admitOf, invokeCheck, returnCheck};
+ghost use Rattle.stepping.specs.StepChecks.{placeOf, placeIn, placeAt, checkedOf, knownOf, inTurn, admitOf, invokeCheck, returnCheck};
 
 // The place that a mark of `look_at` says: 0 for none, else one more than the place.
 fn place_of(mark: u8) -> Flying
@@ -58,17 +58,36 @@ fn checked(own: Check) -> Recorded
     }
 }
 
+// A thread above 7.
+fn known(thread: u32) -> Recorded
+    ensures { λ r. ⌜ r ≡ knownOf thread ⌝ }
+{
+    let t = thread as usize;
+    if t < THREADS {
+        return Recorded::Taken;
+    }
+    refused(Reason::NoSuchThread)
+}
+
+// The first of two that refuses.
+fn in_turn(first: Recorded, second: Recorded) -> Recorded
+    ensures { λ r. ⌜ r ≡ inTurn first second ⌝ }
+{
+    if is_taken(first) {
+        return second;
+    }
+    first
+}
+
 // The refusals that any event can meet first: 9, 1, 2, and whether the operation or return is the object's own.
 pub(crate) fn admit(shaped: bool, valid: bool, thread: u32, own: Check) -> Recorded
     ensures { λ r. ⌜ r ≡ admitOf shaped valid thread own ⌝ }
 {
-    let t = thread as usize;
     if shaped {
         if valid {
-            if t < THREADS {
-                return checked(own);
-            }
-            return refused(Reason::NoSuchThread);
+            let stranger = known(thread);
+            let foreign = checked(own);
+            return in_turn(stranger, foreign);
         }
         return refused(Reason::AlreadyInvalid);
     }
