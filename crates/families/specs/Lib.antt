@@ -12,3 +12,6 @@ pub mod Room
 pub mod States
 pub mod Bare
 pub mod RefusalsExactly
+pub mod RustObjects
+pub mod RustEach
+pub mod RustFamilies

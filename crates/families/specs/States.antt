@@ -67,7 +67,7 @@ alike-kind (Register v) h = refl
 alike-kind (WORegister m) h = refl
 alike-kind (Vec d) h = refl
 
-first-listed : (m : Maybe) → first (listed m) ≡ m
+pub first-listed : (m : Maybe) → first (listed m) ≡ m
 first-listed Nothing = refl
 first-listed (Value v) = refl
 
