@@ -4,3 +4,5 @@ pub mod Invoking
 pub mod Steps
 pub mod Histories
 pub mod Roomy
+pub mod RustCalls
+pub mod RustHistories

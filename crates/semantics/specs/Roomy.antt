@@ -11,16 +11,15 @@ use Rattle.families.specs.Placing.{heldOf, heldAfter}
 use Rattle.families.specs.Refusals.{opBelongs, roomCheck, tookRoom, stepRoom}
 use Rattle.families.specs.PlacingUndone.{leaves-length}
 use Rattle.families.specs.Room.{Room, room-shape, room-clear}
-use Rattle.families.specs.States.{stateOf, Alike, alike-kind, kind-held, placing-right}
+use Rattle.families.specs.States.{Alike, alike-kind}
 use Rattle.families.specs.Bare.{left-room, right-belongs}
-use Rattle.families.specs.declared.Kind.{Kind}
 use Rattle.families.specs.declared.Object.{Object}
 use Rattle.families.specs.declared.Op.{Op}
 use Rattle.families.specs.declared.Ret.{Ret}
 use Rattle.values.specs.declared.refusal.Check.the-variants.{Clear}
 use Rattle.semantics.specs.Calls.{rightBy, leftBy, invokeOf, stepOf}
 use Rattle.semantics.specs.Clear.{InvokeClear, StepClear}
-use Rattle.semantics.specs.Invoking.{holds, invoke-answers, invoke-leaves, invoke-leaves-by}
+use Rattle.semantics.specs.Invoking.{holds, invoke-answers, invoke-leaves, invoke-leaves-by, right-holds}
 use Rattle.semantics.specs.Steps.{step-right, step-yes-left}
 use Rattle.semantics.specs.declared.Answer.the-variants.{Returned}
 use Rattle.semantics.specs.declared.Said.the-variants.{Yes}
@@ -64,14 +63,11 @@ module _ (o : Object) (op : Op) (n : ℕ) (full : length (o .items) ≡ room) (o
 
   -- `is_valid_step`: yes exactly for a right return
 
-  right-holds : (ret : Ret) → rightBy o op ret ≡ right (holds o) op ret
-  right-holds ret =
-      placing-right (o .items) full (o .kind) op own (heldOf (o .kind)) ret
-      ∙ ap (λ (k : Kind). right (stateOf k (o .items)) op ret) (kind-held (o .kind))
-
   pub step-exactly : (ret : Ret) → (stepOf o op ret) .said ≡ Yes ↔ right (holds o) op ret ≡ true
   unfolding stepRoom
-  step-exactly ret = (λ y. sym (right-holds ret) ∙ step-right o op ret .0 y .1, λ e. step-right o op ret .1 (unrefused (right-holds ret ∙ e), right-holds ret ∙ e))
+  step-exactly ret =
+      let h = right-holds o op ret full own in
+      (λ y. sym h ∙ step-right o op ret .0 y .1, λ e. step-right o op ret .1 (unrefused (h ∙ e), h ∙ e))
     where
       either : (b : Bool) → pick b (roomCheck (heldOf (o .kind)) op) Clear ≡ Clear
       either true = clear .has-room

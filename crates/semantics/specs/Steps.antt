@@ -63,7 +63,7 @@ module _ (o : Object) (op : Op) (ret : Ret) where
 
   -- where the return is the object's own, the step is as clear as the operation
 
-  invoke-of-step : StepClear (o .kind) op ret → answerBy o op ≡ ret → InvokeClear (o .kind) op
+  pub invoke-of-step : StepClear (o .kind) op ret → answerBy o op ≡ ret → InvokeClear (o .kind) op
   unfolding stepRoom answerBy
   invoke-of-step c e = record { in-shape = c .in-shape; own = c .own; has-room = go (tookRoom ret) refl }
     where
@@ -92,7 +92,7 @@ module _ (o : Object) (op : Op) (ret : Ret) where
       go (Refused r) h e = absurd (let z : _≡_ {A = ℕ} 0 1 = cc in omega arith)
       go Clear h e = (invoke-clear (o .kind) op .0 h, cc)
 
-  right-own : rightBy o op ret ≡ true ↔ answerBy o op ≡ ret
+  pub right-own : rightBy o op ret ≡ true ↔ answerBy o op ≡ ret
   unfolding answerBy
   right-own = right-answered (o .items) (heldOf (o .kind)) op ret
 
