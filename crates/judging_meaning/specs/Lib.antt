@@ -16,8 +16,10 @@ pub mod Accepted
 -- That the two searches agree: what remains in the Rust's maps, when an operation is in violation, a level of the search, and all of them.
 pub mod Remaining
 pub mod Violations
+pub mod Refers
 pub mod SerializeLevel
 pub mod Levels
 pub mod SerializeAgrees
--- The notes of a tester in shape.
+-- The operations of a tester in shape, and their notes.
+pub mod RowRecord
 pub mod RowNotes

@@ -83,7 +83,7 @@ module _ (O : Object) where
           insert-tabled f (places rows ps) 0 t t _ b (omega arith) (omega (arith, places-many rows ps many)) e
           ∙ ap (tabled f 0) (sym (places-more rows ps t many))
 
-  module _ (K : Keeps (O .Op) (O .Ret)) (flight : O .Op → List ℕ → K .InFlight) (S : Serializes O K) where
+  module _ (K : Keeps (O .Op) (O .Ret)) (flight : O .Op → List ℕ → K .InFlight) (S : Serializes K) where
     -- A thread's entries: its queue, if it has an operation, and what it has in flight.
 
     abbrev pub if-used : List (Entry O) → List (S .Remaining) → Option (List (S .Remaining))
@@ -91,23 +91,23 @@ module _ (O : Object) where
     if-used (e ∷ r) q = some q
 
     abbrev pub left : Place → Option (List (S .Remaining))
-    left a = if-used (a .0) (queue O K S (a .1) (completes O K flight (drop (a .1) (a .0))))
+    left a = if-used (a .0) (queue K S (a .1) (completes O K flight (drop (a .1) (a .0))))
 
     abbrev pub flight-left : Place → Option (K .InFlight)
     flight-left a = flight-entry O K flight (drop (a .1) (a .0))
 
     -- The Rust's maps where ps are placed.
 
-    abbrev pub queues-at : Rows O → List ℕ → Queues O K S
+    abbrev pub queues-at : Rows O → List ℕ → Queues K S
     queues-at rows ps = tabled left 0 (places rows ps)
 
-    abbrev pub flights-at : Rows O → List ℕ → Flights O K S
+    abbrev pub flights-at : Rows O → List ℕ → Flights K S
     flights-at rows ps = tabled flight-left 0 (places rows ps)
 
     -- where nothing is placed
 
     pub queues-begin : (rows : Rows O) (k : ℕ)
-        → queues O K S (tabled (history-entry O K flight) k rows) ≡ tabled left k (places rows (replicate (length rows) 0))
+        → queues K S (tabled (history-entry O K flight) k rows) ≡ tabled left k (places rows (replicate (length rows) 0))
     queues-begin [] k = refl
     queues-begin ([] ∷ rows) k = queues-begin rows (suc k)
     queues-begin ((e ∷ r) ∷ rows) k = ap (entry k (left (e ∷ r, 0))) (queues-begin rows (suc k))
@@ -119,12 +119,12 @@ module _ (O : Object) where
 
     -- done
 
-    none-left : (p : ℕ) (r : List (Entry O)) → is-empty (queue O K S p (completes O K flight r)) ≡ only-pending O r
+    none-left : (p : ℕ) (r : List (Entry O)) → is-empty (queue K S p (completes O K flight r)) ≡ only-pending O r
     none-left p [] = refl
     none-left p (e ∷ r) = go (e .ret) (none-left p r)
       where
-        go : (o : Option (O .Ret)) → is-empty (queue O K S p (completes O K flight r)) ≡ only-pending O r
-            → is-empty (queue O K S p (with-complete O K flight e o (completes O K flight r))) ≡ pending O o && only-pending O r
+        go : (o : Option (O .Ret)) → is-empty (queue K S p (completes O K flight r)) ≡ only-pending O r
+            → is-empty (queue K S p (with-complete O K flight e o (completes O K flight r))) ≡ pending O o && only-pending O r
         go none h = h
         go (some q) h = refl
 
@@ -158,8 +158,8 @@ module _ (O : Object) where
         p = getD ps t 0
 
         -- what is left, from what is left of the row
-        left-is : (i : ℕ) (d : List (Entry O)) → drop i r ≡ d → left (r, i) ≡ if-used r (queue O K S i (completes O K flight d))
-        left-is i d e = ap (λ (l : List (Entry O)). if-used r (queue O K S i (completes O K flight l))) e
+        left-is : (i : ℕ) (d : List (Entry O)) → drop i r ≡ d → left (r, i) ≡ if-used r (queue K S i (completes O K flight d))
+        left-is i d e = ap (λ (l : List (Entry O)). if-used r (queue K S i (completes O K flight l))) e
 
         go : (d : List (Entry O)) → drop p r ≡ d → Shaped O d → Turn rows ps t
         go _ e empty =
@@ -169,7 +169,7 @@ module _ (O : Object) where
             let h = nth-drop r p x [] e in
             let before : left (r, p) ≡ some []
             = left-is p (x ∷ []) e
-            ∙ ap (λ (o : Option (O .Ret)). if-used r (queue O K S p (with-complete O K flight x o []))) n
+            ∙ ap (λ (o : Option (O .Ret)). if-used r (queue K S p (with-complete O K flight x o []))) n
             ∙ left-used r p x [] (h .0) in
             let after : left (r, suc p) ≡ some [] = left-is (suc p) [] (h .1) ∙ left-used r p x [] (h .0) in
             flying (next-row rows ps t many ∙ h .0) n before
@@ -178,11 +178,11 @@ module _ (O : Object) where
             (place-removed rows ps t many there flight-left (ap (flight-entry O K flight) (h .1)))
         go _ e (completed-first {e = x} {q = q} {r = d} n w) =
             let h = nth-drop r p x d e in
-            let rest : List (S .Remaining) = queue O K S (suc p) (completes O K flight d) in
+            let rest : List (S .Remaining) = queue K S (suc p) (completes O K flight d) in
             let first : List (S .Remaining) = S .queued p (K .completed (flight (x .op) (x .needs)) q) ∷ rest in
             completed (next-row rows ps t many ∙ h .0) n
             (left-is p (x ∷ d) e
-            ∙ ap (λ (o : Option (O .Ret)). if-used r (queue O K S p (with-complete O K flight x o (completes O K flight d)))) n
+            ∙ ap (λ (o : Option (O .Ret)). if-used r (queue K S p (with-complete O K flight x o (completes O K flight d)))) n
             ∙ left-used r p x first (h .0))
             (place-inserted rows ps t many there left rest (left-is (suc p) d (h .1) ∙ left-used r p x rest (h .0)))
             (place-same rows ps t many flight-left

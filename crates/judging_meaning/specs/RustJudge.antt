@@ -10,8 +10,10 @@ use Rattle.history.specs.Rows.{Rows}
 use Rattle.history.specs.Orders.{Order as Places}
 use Rattle.values.specs.Value.{pick}
 use Rattle.families.specs.Families.{families}
-use Rattle.semantics.specs.Invoking.{holds}
+use Rattle.families.specs.RustObjects.{ref-objects, ref-obj}
 use Rattle.families.specs.declared.Object.{Object}
+use Rattle.families.specs.declared.Op.{Op}
+use Rattle.families.specs.declared.Ret.{Ret}
 use Rattle.recording_meaning.specs.Models.{Model, rows-of, sequentialModel, linearizabilityModel}
 use Rattle.recording_meaning.specs.Inputs.{feed}
 use Rattle.recording_meaning.specs.Lawful.{Lawful, sequential-lawful, linearizability-lawful}
@@ -32,16 +34,16 @@ use Rattle.judging_meaning.specs.Judged.{order-told, judges}
 -- An answer of the judge in the Rust's terms: for Order its order, with the operations; else None. The Rust has no budget, so that Undecided has no
 -- counterpart there; it is not given where the budget covers the search.
 
-abbrev pub shown-with : Verdict → TotalOrder families → Option (TotalOrder families)
+abbrev pub shown-with : Verdict → TotalOrder Op Ret → Option (TotalOrder Op Ret)
 shown-with Order l = some l
 shown-with NoOrder l = none
 shown-with Undecided l = none
 shown-with Invalid l = none
 
-abbrev pub shown-answer : Rows families → Answer → Option (TotalOrder families)
+abbrev pub shown-answer : Rows families → Answer → Option (TotalOrder Op Ret)
 shown-answer rows a = shown-with (a .verdict) (with-operations families rows (order-in a))
 
-module _ (M : Model) (R : InRust M) (S : Serializes families (R .keeps)) where
+module _ (M : Model) (R : InRust M) (S : Serializes (R .keeps)) where
   -- The answer is the Rust's.
   pub record JudgesAsRust : Type 0 where
     -- of a tester in shape, where the budget covers the search
@@ -49,13 +51,13 @@ module _ (M : Model) (R : InRust M) (S : Serializes families (R .keeps)) where
         → rust-answer M R S s ≡ shown-answer (rows-of M s) (judgeOf M s b)
     -- and so is whether it is consistent
     pub same-consistent : (s : M .Tester) → M .Lengths s → M .shaped s ≡ true → (b : ℕ) → needed M s ≤ b
-        → is-consistent families (R .keeps) S holds (in-rust M R s) ≡ isConsistent (judgeOf M s b .verdict)
+        → is-consistent (R .keeps) S ref-objects ref-obj (in-rust M R s) ≡ isConsistent (judgeOf M s b .verdict)
     -- of a history that is not valid both answer None, whatever the budget
     pub same-invalid : (s : M .Tester) → M .history s .valid ≡ false → (b : ℕ)
         → (rust-answer M R S s ≡ none) × (shown-answer (rows-of M s) (judgeOf M s b) ≡ none)
     -- the Rust's own new tester, fed the same inputs as a fresh tester, answers the same, where the two record the same
     pub same-fed : (start : Object) (l : Events families) → SameAsRust M R start l → (b : ℕ) → needed M (feed M (M .new start) l) ≤ b
-        → serialized-history families (R .keeps) S holds (rust-feed M R (rust-new M R start) l)
+        → serialized-history (R .keeps) S ref-objects ref-obj (rust-feed M R (rust-new M R start) l)
         ≡ shown-answer (rows-of M (feed M (M .new start) l)) (judgeOf M (feed M (M .new start) l) b)
 
 -- what the walk found, shown as an answer
@@ -68,7 +70,7 @@ shown-told rows j = go (j .verdict)
     go no-order = refl
     go undecided = refl
 
-shown-consistent : (v : Verdict) (l : TotalOrder families) → is-some (shown-with v l) ≡ isConsistent v
+shown-consistent : (v : Verdict) (l : TotalOrder Op Ret) → is-some (shown-with v l) ≡ isConsistent v
 unfolding isConsistent
 shown-consistent Order l = refl
 shown-consistent NoOrder l = refl
@@ -83,7 +85,7 @@ judge-sound M s b h =
     let invalid = withoutOrder Invalid 0 in
     ap (λ (e : Bool). pick e (pick (M .history s .valid) found invalid) invalid) (h .0) ∙ ap (λ (v : Bool). pick v found invalid) (h .1)
 
-module _ (M : Model) (L : Lawful M) (R : InRust M) (S : Serializes families (R .keeps)) (serialized : Serialized M R S) where
+module _ (M : Model) (L : Lawful M) (R : InRust M) (S : Serializes (R .keeps)) (serialized : Serialized M R S) where
   invalid-none : (s : M .Tester) → M .history s .valid ≡ false → (b : ℕ) → shown-answer (rows-of M s) (judgeOf M s b) ≡ none
   invalid-none s v b =
       ap (λ (w : Verdict). shown-with w (with-operations families (rows-of M s) (order-in (judgeOf M s b)))) (judges M L s b .verdict-exactly Invalid .1 (inr v))
@@ -111,8 +113,8 @@ module _ (M : Model) (L : Lawful M) (R : InRust M) (S : Serializes families (R .
         serialized .stray s (w .stands) ∙ same s (L .lengths s (g .sized) (g .beside)) (good-shaped M L s g) b h;
   }
 
-pub sequential-judge-as-rust : JudgesAsRust sequentialModel sequential-in-rust (sequential-serializes families)
-sequential-judge-as-rust = as-rust sequentialModel sequential-lawful sequential-in-rust (sequential-serializes families) sequential-serialized
+pub sequential-judge-as-rust : JudgesAsRust sequentialModel sequential-in-rust (sequential-serializes Op Ret)
+sequential-judge-as-rust = as-rust sequentialModel sequential-lawful sequential-in-rust (sequential-serializes Op Ret) sequential-serialized
 
-pub linearizability-judge-as-rust : JudgesAsRust linearizabilityModel linearizability-in-rust (linearizable-serializes families)
-linearizability-judge-as-rust = as-rust linearizabilityModel linearizability-lawful linearizability-in-rust (linearizable-serializes families) linearizability-serialized
+pub linearizability-judge-as-rust : JudgesAsRust linearizabilityModel linearizability-in-rust (linearizable-serializes Op Ret)
+linearizability-judge-as-rust = as-rust linearizabilityModel linearizability-lawful linearizability-in-rust (linearizable-serializes Op Ret) linearizability-serialized

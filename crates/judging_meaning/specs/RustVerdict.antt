@@ -14,7 +14,10 @@ use Rattle.history.specs.Lists.{not-some}
 use Rattle.history.specs.Space.{space}
 use Rattle.history.specs.Ways.{Steps, searched}
 use Rattle.history.specs.Budgets.{judged}
+use Rattle.families.specs.Family.{Family, familyOf, opFamily}
 use Rattle.families.specs.Families.{families}
+use Rattle.families.specs.RustObjects.{ref-objects, ref-obj}
+use Rattle.families.specs.RustFamilies.{holding, object-same}
 use Rattle.semantics.specs.Invoking.{holds}
 use Rattle.families.specs.declared.Object.{Object}
 use Rattle.families.specs.declared.Op.{Op}
@@ -22,21 +25,16 @@ use Rattle.families.specs.declared.Ret.{Ret}
 use Rattle.recording_meaning.specs.Models.{Model, rows-of, sequentialModel, linearizabilityModel}
 use Rattle.recording_meaning.specs.Meaning.{Means}
 use Rattle.recording_meaning.specs.Meant.{sequential-meaning, linearizability-meaning}
+use Rattle.recording_meaning.specs.Lawful.{Lawful, sequential-lawful, linearizability-lawful}
 use Rattle.recording_meaning.specs.Rust.{len}
 use Rattle.recording_meaning.specs.RustMaps.{in-maps}
 use Rattle.recording_meaning.specs.RustReading.{InRust, sequential-in-rust, linearizability-in-rust, RustTester, in-rust, StandsFor, exactly, strayed}
-use Rattle.judging_meaning.specs.Serialize.{
-  TotalOrder,
-  Serializes,
-  queues,
-  serialize,
-  serialized-history,
-  sequential-serializes,
-  linearizable-serializes,
-}
+use Rattle.judging_meaning.specs.Serialize.{TotalOrder, Serializes, queues, serialize, serialized-history, sequential-serializes, linearizable-serializes}
 use Rattle.judging_meaning.specs.Shown.{shown, shown-verdict}
 use Rattle.judging_meaning.specs.Violations.{Agrees, sequential-agrees, linearizable-agrees}
+use Rattle.judging_meaning.specs.Refers.{families-refer}
 use Rattle.judging_meaning.specs.SerializeAgrees.{serialized-agrees, levels-enough}
+use Rattle.judging_meaning.specs.RowRecord.{rows-own}
 use Rattle.judging_meaning.specs.RowNotes.{sequential-noteless, linearizability-fits}
 
 -- what a whole search tells
@@ -50,10 +48,10 @@ module _ (rows : Rows families) where
   told-none (some p) h = not-some (sym h)
   told-none none h = refl
 
-module _ (M : Model) (R : InRust M) (S : Serializes families (R .keeps)) where
+module _ (M : Model) (R : InRust M) (S : Serializes (R .keeps)) where
   -- What `serialized_history` answers of the Rust's tester that a tester reads as.
-  abbrev pub rust-answer : M .Tester → Option (TotalOrder families)
-  rust-answer s = serialized-history families (R .keeps) S holds (in-rust M R s)
+  abbrev pub rust-answer : M .Tester → Option (TotalOrder Op Ret)
+  rust-answer s = serialized-history (R .keeps) S ref-objects ref-obj (in-rust M R s)
 
   -- The tree that the judge searches, and its verdict under the budget b.
 
@@ -74,24 +72,32 @@ module _ (M : Model) (R : InRust M) (S : Serializes families (R .keeps)) where
     -- the levels of the transcription do not bound it: with more of them it answers the same
     pub unbounded : (s : M .Tester) → M .Lengths s → M .shaped s ≡ true → M .history s .valid ≡ true
         → (n : ℕ) → len Op Ret Object (R .keeps) (in-rust M R s) ≤ n
-        → serialize families (R .keeps) S n [] (holds (M .history s .start)) (queues families (R .keeps) S (in-rust M R s .history-by-thread))
+        → serialize (R .keeps) S ref-objects n [] (ref-obj (M .history s .start)) (queues (R .keeps) S (in-rust M R s .history-by-thread))
         (in-rust M R s .in-flight-by-thread) ≡ rust-answer s
     -- of a history that is not valid: None
     pub invalid : (s : M .Tester) → M .history s .valid ≡ false → rust-answer s ≡ none
     -- and a stray entry changes nothing
-    pub stray : (s : M .Tester) {T : RustTester M R} → StandsFor M R s T → serialized-history families (R .keeps) S holds T ≡ rust-answer s
+    pub stray : (s : M .Tester) {T : RustTester M R} → StandsFor M R s T → serialized-history (R .keeps) S ref-objects ref-obj T ≡ rust-answer s
 
   -- the Rust's answer, by validity
-  abbrev rust-of : M .Tester → Bool → Option (TotalOrder families)
-  rust-of s b = serialized-history families (R .keeps) S holds (in-maps families (R .keeps) (R .flight) (M .history s .start) (rows-of M s) b)
+  abbrev rust-of : M .Tester → Bool → Option (TotalOrder Op Ret)
+  rust-of s b = serialized-history (R .keeps) S ref-objects ref-obj (in-maps families (R .keeps) (R .flight) (M .history s .start) (rows-of M s) b)
 
-  stray-same : (s : M .Tester) {T : RustTester M R} → StandsFor M R s T → serialized-history families (R .keeps) S holds T ≡ rust-answer s
+  stray-same : (s : M .Tester) {T : RustTester M R} → StandsFor M R s T → serialized-history (R .keeps) S ref-objects ref-obj T ≡ rust-answer s
   stray-same s exactly = refl
   stray-same s (strayed t l v) = rw v
 
-  module _ (means : Means M)
+  module _ (means : Means M) (L : Lawful M)
       (agrees : (s : M .Tester) → M .Lengths s → M .shaped s ≡ true → Agrees families (R .keeps) (R .flight) S (rows-of M s)) where
     module _ (s : M .Tester) (z : M .Lengths s) (e : M .shaped s ≡ true) (v : M .history s .valid ≡ true) where
+      -- the family of the tester's object, whose operations it holds
+
+      abbrev family : Family
+      family = familyOf (M .history s .start .kind)
+
+      abbrev Own : Op → Type 0
+      Own op = opFamily op ≡ family
+
       -- the Rust's tester, which is valid
       with-valid : rust-answer s ≡ rust-of s true
       with-valid = ap (rust-of s) v
@@ -99,8 +105,19 @@ module _ (M : Model) (R : InRust M) (S : Serializes families (R .keeps)) where
       rust-told : rust-answer s ≡ shown-verdict families (rows-of M s) (told (answer (search-of s)))
       rust-told =
           with-valid
-          ∙ serialized-agrees families (R .keeps) (R .flight) S (rows-of M s) (agrees s z e) (means .rows-in-shape s z e) holds (M .history s .start)
+          ∙ serialized-agrees families (R .keeps) (R .flight) S (rows-of M s) ref-objects (holding family) Own (families-refer family) (agrees s z e)
+          (means .rows-in-shape s z e) (rows-own M L s z e) ref-obj (M .history s .start) (holds (M .history s .start))
+          (object-same (M .history s .start .kind) (M .history s .start .items))
           ∙ shown-told (rows-of M s) (answer (search-of s))
+
+      more-levels : (n : ℕ) → len Op Ret Object (R .keeps) (in-rust M R s) ≤ n
+          → serialize (R .keeps) S ref-objects n [] (ref-obj (M .history s .start)) (queues (R .keeps) S (in-rust M R s .history-by-thread))
+          (in-rust M R s .in-flight-by-thread) ≡ rust-answer s
+      more-levels n h =
+          levels-enough families (R .keeps) (R .flight) S (rows-of M s) ref-objects (holding family) Own (families-refer family) (agrees s z e)
+          (means .rows-in-shape s z e) (rows-own M L s z e) ref-obj (M .history s .start) (holds (M .history s .start))
+          (object-same (M .history s .start .kind) (M .history s .start .items)) n h
+          ∙ sym with-valid
 
       verdict-told : (b : ℕ) → count (search-of s) ≤ b → verdict-of s b ≡ told (answer (search-of s))
       verdict-told b h = ap (λ (j : Judged (Step (space families (rows-of M s)))). j .verdict) (judge-enough b (search-of s) h)
@@ -112,19 +129,17 @@ module _ (M : Model) (R : InRust M) (S : Serializes families (R .keeps)) where
         λ n. verdict-told s z e v b h ∙ told-none (rows-of M s) (answer (search-of s)) (sym (rust-told s z e v) ∙ n),
         λ n. rust-told s z e v ∙ ap (shown-verdict families (rows-of M s)) (sym (verdict-told s z e v b h) ∙ n),
       );
-      unbounded = λ s z e v n h.
-          levels-enough families (R .keeps) (R .flight) S (rows-of M s) (agrees s z e) (means .rows-in-shape s z e) holds (M .history s .start) n h
-          ∙ sym (with-valid s z e v);
+      unbounded = more-levels;
       invalid = λ s v. rw v;
       stray = stray-same;
     }
 
-pub sequential-serialized : Serialized sequentialModel sequential-in-rust (sequential-serializes families)
+pub sequential-serialized : Serialized sequentialModel sequential-in-rust (sequential-serializes Op Ret)
 sequential-serialized =
-    serialized sequentialModel sequential-in-rust (sequential-serializes families) sequential-meaning
+    serialized sequentialModel sequential-in-rust (sequential-serializes Op Ret) sequential-meaning sequential-lawful
     (λ s z e. sequential-agrees families (rows-of sequentialModel s) (sequential-noteless s))
 
-pub linearizability-serialized : Serialized linearizabilityModel linearizability-in-rust (linearizable-serializes families)
+pub linearizability-serialized : Serialized linearizabilityModel linearizability-in-rust (linearizable-serializes Op Ret)
 linearizability-serialized =
-    serialized linearizabilityModel linearizability-in-rust (linearizable-serializes families) linearizability-meaning
+    serialized linearizabilityModel linearizability-in-rust (linearizable-serializes Op Ret) linearizability-meaning linearizability-lawful
     (λ s z e. linearizable-agrees families (rows-of linearizabilityModel s) (linearizability-fits s z e))

@@ -1,12 +1,12 @@
 -- The Rust's search for an order, transcribed on lists: `serialize`, `serialized_history` and `is_consistent` of stateright 0.31.0,
--- src/semantics/linearizability.rs and sequential_consistency.rs. Definitions only. `serialize` is written once; what the two testers differ in is
--- the record Serializes.
+-- src/semantics/linearizability.rs and sequential_consistency.rs. Definitions only. `serialize` is written once, over any reference object; what the
+-- two testers differ in is the record Serializes.
 use Prim.Native.Nat.{ℕ, zero, suc}
 use mathlib.Core.Bool.{Bool, true, false, cond, _&&_, _||_}
 use mathlib.Core.Option.{Option, none, some}
 use mathlib.Core.List.{List, [], _∷_, _++_}
 use lib.Dec.{leb}
-use Rattle.history.specs.Object.{Object}
+use Rattle.families.specs.RustObjects.{SequentialSpec}
 use Rattle.recording_meaning.specs.Rust.{Map, get, insert, remove, Keeps, Tester, len, sequential, linearizable}
 
 module _ {A : Type 0} where
@@ -41,26 +41,26 @@ module _ {A : Type 0} where
   any-behind remaining [] = false
   any-behind remaining (c ∷ cs) = behind (c .1) (get remaining (c .0)) || any-behind remaining cs
 
-module _ (O : Object) where
-  -- Vec<(RefObj::Op, RefObj::Ret)>: a total order.
-  abbrev pub TotalOrder : Type 0
-  TotalOrder = List (O .Op × O .Ret)
+-- Vec<(RefObj::Op, RefObj::Ret)>: a total order.
+abbrev pub TotalOrder : Type 0 → Type 0 → Type 0
+TotalOrder Op Ret = List (Op × Ret)
 
-  -- What the two testers differ in.
-  pub record Serializes (K : Keeps (O .Op) (O .Ret)) : Type 1 where
-    -- what stands in a queue of remaining_history_by_thread, as it is made of the completed operation at an index
-    pub Remaining : Type 0
-    pub queued : ℕ → K .Complete → Remaining
-    -- what pop_front gives: the operation as it was in flight, and its return
-    pub popped : Remaining → K .InFlight × O .Ret
-    pub operation : K .InFlight → O .Op
-    -- violation, by what remains once the operation is taken out
-    pub violation : K .InFlight → Map (List Remaining) → Bool
+-- What the two testers differ in.
+pub record Serializes {Op Ret : Type 0} (K : Keeps Op Ret) : Type 1 where
+  -- what stands in a queue of remaining_history_by_thread, as it is made of the completed operation at an index
+  pub Remaining : Type 0
+  pub queued : ℕ → K .Complete → Remaining
+  -- what pop_front gives: the operation as it was in flight, and its return
+  pub popped : Remaining → K .InFlight × Ret
+  pub operation : K .InFlight → Op
+  -- violation, by what remains once the operation is taken out
+  pub violation : K .InFlight → Map (List Remaining) → Bool
 
+module _ (Op Ret : Type 0) where
   -- SequentialConsistencyTester: the queues are those of history_by_thread, and there is no violation.
-  abbrev pub sequential-serializes : Serializes (sequential (O .Op) (O .Ret))
+  abbrev pub sequential-serializes : Serializes (sequential Op Ret)
   sequential-serializes = record {
-    Remaining = O .Op × O .Ret;
+    Remaining = Op × Ret;
     queued = λ i c. c;
     popped = λ c. (c .0, c .1);
     operation = λ op. op;
@@ -69,63 +69,65 @@ module _ (O : Object) where
 
   -- LinearizabilityTester: the queues are enumerated, .map(|(t, cs)| (*t, cs.clone().into_iter().enumerate().collect())), and an operation is
   -- turned away while a peer still has one that it must come after.
-  abbrev pub linearizable-serializes : Serializes (linearizable (O .Op) (O .Ret))
+  abbrev pub linearizable-serializes : Serializes (linearizable Op Ret)
   linearizable-serializes = record {
-    Remaining = ℕ × linearizable (O .Op) (O .Ret) .Complete;
+    Remaining = ℕ × linearizable Op Ret .Complete;
     queued = λ i c. (i, c);
     popped = λ c. ((c .1 .0, c .1 .1), c .1 .2);
     operation = λ f. f .1;
     violation = λ f remaining. any-behind remaining (f .0);
   }
 
-  module _ (K : Keeps (O .Op) (O .Ret)) (S : Serializes K) where
-    -- remaining_history_by_thread, and in_flight_by_thread.
+module _ {Op Ret : Type 0} (K : Keeps Op Ret) (S : Serializes K) where
+  -- remaining_history_by_thread, and in_flight_by_thread.
 
-    abbrev pub Queues : Type 0
-    Queues = Map (List (S .Remaining))
+  abbrev pub Queues : Type 0
+  Queues = Map (List (S .Remaining))
 
-    abbrev pub Flights : Type 0
-    Flights = Map (K .InFlight)
+  abbrev pub Flights : Type 0
+  Flights = Map (K .InFlight)
 
-    -- A queue of completed operations, the first with the index i; and all of them.
+  -- A queue of completed operations, the first with the index i; and all of them.
 
-    abbrev pub queue : ℕ → List (K .Complete) → List (S .Remaining)
-    queue i [] = []
-    queue i (c ∷ cs) = S .queued i c ∷ queue (suc i) cs
+  abbrev pub queue : ℕ → List (K .Complete) → List (S .Remaining)
+  queue i [] = []
+  queue i (c ∷ cs) = S .queued i c ∷ queue (suc i) cs
 
-    abbrev pub queues : Map (List (K .Complete)) → Queues
-    queues [] = []
-    queues (p ∷ m) = (p .0, queue 0 (p .1)) ∷ queues m
+  abbrev pub queues : Map (List (K .Complete)) → Queues
+  queues [] = []
+  queues (p ∷ m) = (p .0, queue 0 (p .1)) ∷ queues m
 
+  module _ (RefObj : SequentialSpec Op Ret) where
     -- Self::serialize(valid_history, &ref_obj, &remaining_history_by_thread, &in_flight_by_thread)
     abbrev pub Search : Type 0
-    Search = TotalOrder → O .State → Queues → Flights → Option TotalOrder
+    Search = TotalOrder Op Ret → RefObj .Self → Queues → Flights → Option (TotalOrder Op Ret)
 
-    -- The body of the loop; a continue is none. On a clone of ref_obj, invoke answers what the object answers, is_valid_step is `ok`, and both
-    -- leave what the operation leaves; a clone that refuses the step is dropped.
-    module _ (search : Search) (valid-history : TotalOrder) (ref-obj : O .State) (remaining : Queues) (in-flight : Flights) where
-      -- Case 1: no remaining history to interleave; maybe in flight, by what the key has. That is removed, and pushed with the object's answer.
-      abbrev pub try-in-flight : ℕ → Option (K .InFlight) → Option TotalOrder
+    -- The body of the loop; a continue is none.
+    module _ (search : Search) (valid-history : TotalOrder Op Ret) (ref-obj : RefObj .Self) (remaining : Queues) (in-flight : Flights) where
+      -- Case 1: no remaining history to interleave; maybe in flight, by what the key has. That is removed, and pushed with what invoke answers on a
+      -- clone of ref_obj.
+      abbrev pub try-in-flight : ℕ → Option (K .InFlight) → Option (TotalOrder Op Ret)
       try-in-flight thread none = none
       try-in-flight thread (some f) =
+          let invoked = RefObj .invoke ref-obj (S .operation f) in
           cond (S .violation f remaining) none
-          (search (valid-history ++ ((S .operation f, O .answers ref-obj (S .operation f)) ∷ [])) (O .after ref-obj (S .operation f))
-          remaining (remove in-flight thread))
+          (search (valid-history ++ ((S .operation f, invoked .0) ∷ [])) (invoked .1) remaining (remove in-flight thread))
 
-      -- Case 2: has remaining history to interleave. What was popped, and the queues after that; it is pushed with its own return.
-      abbrev pub try-remaining : K .InFlight × O .Ret → Queues → Option TotalOrder
+      -- Case 2: has remaining history to interleave. What was popped, and the queues after that; it is pushed with its own return, unless
+      -- is_valid_step on a clone of ref_obj is false: that clone is dropped.
+      abbrev pub try-remaining : K .InFlight × Ret → Queues → Option (TotalOrder Op Ret)
       try-remaining p remaining-after =
+          let step = RefObj .is-valid-step ref-obj (S .operation (p .0)) (p .1) in
           cond (S .violation (p .0) remaining-after) none
-          (cond (O .ok ref-obj (S .operation (p .0)) (p .1))
-          (search (valid-history ++ ((S .operation (p .0), p .1) ∷ [])) (O .after ref-obj (S .operation (p .0))) remaining-after in-flight) none)
+          (cond (step .0) (search (valid-history ++ ((S .operation (p .0), p .1) ∷ [])) (step .1) remaining-after in-flight) none)
 
       -- if remaining_history.is_empty() { Case 1 } else { Case 2 }; pop_front leaves the rest of the queue in the thread's entry
-      abbrev pub try-thread : ℕ → List (S .Remaining) → Option TotalOrder
+      abbrev pub try-thread : ℕ → List (S .Remaining) → Option (TotalOrder Op Ret)
       try-thread thread [] = try-in-flight thread (get in-flight thread)
       try-thread thread (c ∷ cs) = try-remaining (S .popped c) (insert remaining thread cs)
 
       -- for (thread_id, remaining_history) in remaining_history_by_thread.iter() { .. } None
-      abbrev pub try-each : Queues → Option TotalOrder
+      abbrev pub try-each : Queues → Option (TotalOrder Op Ret)
       try-each [] = none
       try-each (p ∷ m) = or-else (try-thread (p .0) (p .1)) (try-each m)
 
@@ -136,12 +138,12 @@ module _ (O : Object) where
     serialize (suc n) valid-history ref-obj remaining in-flight =
         cond (all-empty remaining) (some valid-history) (try-each (serialize n) valid-history ref-obj remaining in-flight remaining)
 
-    -- serialized_history, where `holds` says what an initial object is
-    abbrev pub serialized-history : {RefObj : Type 0} → (RefObj → O .State) → Tester (O .Op) (O .Ret) RefObj K → Option TotalOrder
-    serialized-history {RefObj} holds s =
+    -- serialized_history, where `ref-obj` says what an initial object is in the Rust
+    abbrev pub serialized-history : {Init : Type 0} → (Init → RefObj .Self) → Tester Op Ret Init K → Option (TotalOrder Op Ret)
+    serialized-history {Init} ref-obj s =
         cond (s .is-valid-history)
-        (serialize (len (O .Op) (O .Ret) RefObj K s) [] (holds (s .init-ref-obj)) (queues (s .history-by-thread)) (s .in-flight-by-thread)) none
+        (serialize (len Op Ret Init K s) [] (ref-obj (s .init-ref-obj)) (queues (s .history-by-thread)) (s .in-flight-by-thread)) none
 
     -- is_consistent: self.serialized_history().is_some()
-    abbrev pub is-consistent : {RefObj : Type 0} → (RefObj → O .State) → Tester (O .Op) (O .Ret) RefObj K → Bool
-    is-consistent holds s = is-some (serialized-history holds s)
+    abbrev pub is-consistent : {Init : Type 0} → (Init → RefObj .Self) → Tester Op Ret Init K → Bool
+    is-consistent ref-obj s = is-some (serialized-history ref-obj s)

@@ -11,70 +11,60 @@ use Rattle.theory.specs.Tree.{Tree, along, answer}
 use Rattle.theory.specs.Space.{Move, Step, branch, row as tries}
 use Rattle.history.specs.Object.{Object}
 use Rattle.history.specs.Rows.{Entry, Rows, row, AllShaped}
+use Rattle.history.specs.Progress.{next-row}
 use Rattle.history.specs.Space.{Node, next, more, met, checked, gives, stepped, placing, trying, space}
 use Rattle.history.specs.Ways.{Steps, strip}
+use Rattle.families.specs.RustObjects.{SequentialSpec}
 use Rattle.recording_meaning.specs.Rust.{Keeps, get, insert, remove}
 use Rattle.recording_meaning.specs.RustMaps.{entry, tabled}
 use Rattle.judging_meaning.specs.Serialize.{TotalOrder, Serializes, Queues, Flights, Search, or-else, try-in-flight, try-remaining, try-each}
 use Rattle.judging_meaning.specs.Shown.{operations-from}
-use Rattle.judging_meaning.specs.Remaining.{
-  Place,
-  places,
-  places-many,
-  place-at,
-  if-used,
-  left,
-  queues-at,
-  flights-at,
-  Turn,
-  nothing,
-  flying,
-  completed,
-  turn,
-}
+use Rattle.judging_meaning.specs.Remaining.{Place, places, places-many, place-at, if-used, left, queues-at, flights-at, Turn, nothing, flying, completed, turn}
 use Rattle.judging_meaning.specs.Violations.{Agrees}
+use Rattle.judging_meaning.specs.Refers.{Refers, AllOwn}
 
 -- The answer of a walk from where ps are placed, behind what is collected.
-abbrev pub shown-from : (O : Object) (rows : Rows O) → List ℕ → TotalOrder O → Option (Steps O rows) → Option (TotalOrder O)
+abbrev pub shown-from : (O : Object) (rows : Rows O) → List ℕ → TotalOrder (O .Op) (O .Ret) → Option (Steps O rows) → Option (TotalOrder (O .Op) (O .Ret))
 shown-from O rows ps v none = none
 shown-from O rows ps v (some p) = some (v ++ operations-from O rows ps (strip O rows p))
 
-module _ (O : Object) (K : Keeps (O .Op) (O .Ret)) (flight : O .Op → List ℕ → K .InFlight) (S : Serializes O K) (rows : Rows O) where
+module _ (O : Object) (K : Keeps (O .Op) (O .Ret)) (flight : O .Op → List ℕ → K .InFlight) (S : Serializes K) (rows : Rows O)
+    (Obj : SequentialSpec (O .Op) (O .Ret)) (held : O .State → Obj .Self) (Own : O .Op → Type 0) (refers : Refers O Obj held Own) where
   -- The Rust's search and a search tree agree, wherever they go on from.
-  abbrev pub Same : Search O K S → (Node O → Tree (Step (space O rows))) → Type 0
-  Same search below = (v : TotalOrder O) (ps : List ℕ) (s : O .State) → length ps ≡ length rows
-      → search v s (queues-at O K flight S rows ps) (flights-at O K flight S rows ps)
+  abbrev pub Same : Search K S Obj → (Node O → Tree (Step (space O rows))) → Type 0
+  Same search below = (v : TotalOrder (O .Op) (O .Ret)) (ps : List ℕ) (s : O .State) → length ps ≡ length rows
+      → search v (held s) (queues-at O K flight S rows ps) (flights-at O K flight S rows ps)
       ≡ shown-from O rows ps v (answer (below (record { progress = ps; object = s })))
 
-  module _ (agrees : Agrees O K flight S rows) (shaped : AllShaped O rows) (search : Search O K S) (below : Node O → Tree (Step (space O rows)))
-      (same : Same search below) (v : TotalOrder O) (ps : List ℕ) (s : O .State) (many : length ps ≡ length rows) where
+  module _ (agrees : Agrees O K flight S rows) (shaped : AllShaped O rows) (own : AllOwn O rows Own) (search : Search K S Obj) (below : Node O → Tree (Step (space O rows)))
+      (same : Same search below) (v : TotalOrder (O .Op) (O .Ret)) (ps : List ℕ) (s : O .State) (many : length ps ≡ length rows) where
     -- where the level is, in the tree and in the Rust's maps; and where it goes on once one more of thread t is placed
 
     abbrev here : Node O
     here = record { progress = ps; object = s }
 
-    abbrev remaining : Queues O K S
+    abbrev remaining : Queues K S
     remaining = queues-at O K flight S rows ps
 
-    abbrev flights : Flights O K S
+    abbrev flights : Flights K S
     flights = flights-at O K flight S rows ps
 
-    abbrev remaining-on : ℕ → Queues O K S
+    abbrev remaining-on : ℕ → Queues K S
     remaining-on t = queues-at O K flight S rows (more ps t)
 
-    abbrev flights-on : ℕ → Flights O K S
+    abbrev flights-on : ℕ → Flights K S
     flights-on t = flights-at O K flight S rows (more ps t)
 
     -- what the tree answers, and what the Rust's loop does
 
-    abbrev answered : Tree (Step (space O rows)) → Option (TotalOrder O)
+    abbrev answered : Tree (Step (space O rows)) → Option (TotalOrder (O .Op) (O .Ret))
     answered tree = shown-from O rows ps v (answer tree)
 
-    abbrev looped : Queues O K S → Option (TotalOrder O)
-    looped m = try-each O K S search v s remaining flights m
+    abbrev looped : Queues K S → Option (TotalOrder (O .Op) (O .Ret))
+    looped m = try-each K S Obj search v (held s) remaining flights m
 
     -- what comes of thread t's attempt with e: nothing where its notes are not met or its return is refused, else what the level below answers
-    abbrev tried : ℕ → Entry O → Bool → Option (O .Ret) → Option (TotalOrder O)
+    abbrev tried : ℕ → Entry O → Bool → Option (O .Ret) → Option (TotalOrder (O .Op) (O .Ret))
     tried t e false g = none
     tried t e true none = none
     tried t e true (some r) = shown-from O rows (more ps t) (v ++ ((e .op, r) ∷ [])) (answer (below (stepped O here t e)))
@@ -103,49 +93,55 @@ module _ (O : Object) (K : Keeps (O .Op) (O .Ret)) (flight : O .Op → List ℕ 
 
     -- in the Rust
 
-    goes-on : (t : ℕ) (u : TotalOrder O) (z : O .State)
-        → search u z (remaining-on t) (flights-on t) ≡ shown-from O rows (more ps t) u (answer (below (record { progress = more ps t; object = z })))
+    is-own : (t : ℕ) (e : Entry O) → next rows ps t ≡ some e → Own (e .op)
+    is-own t e n = own t (getD ps t 0) e (sym (next-row rows ps t many) ∙ n)
+
+    goes-on : (t : ℕ) (u : TotalOrder (O .Op) (O .Ret)) (z : O .State)
+        → search u (held z) (remaining-on t) (flights-on t) ≡ shown-from O rows (more ps t) u (answer (below (record { progress = more ps t; object = z })))
     goes-on t u z = same u (more ps t) z (length-set ps t (suc (getD ps t 0)) ∙ many)
 
     -- Case 1
     flight-agrees : (t : ℕ) (e : Entry O) → next rows ps t ≡ some e → remaining ≡ remaining-on t → remove flights t ≡ flights-on t
-        → try-in-flight O K S search v s remaining flights t (some (flight (e .op) (e .needs)))
+        → try-in-flight K S Obj search v (held s) remaining flights t (some (flight (e .op) (e .needs)))
         ≡ tried t e (met (e .needs) ps) (some (O .answers s (e .op)))
-    flight-agrees t e n q f = rw (agrees .operates (e .op) (e .needs), q, f, agrees .violates ps t e many n) (go (met (e .needs) ps))
+    flight-agrees t e n q f =
+        rw (agrees .operates (e .op) (e .needs), q, f, agrees .violates ps t e many n, refers .invokes s (e .op) (is-own t e n)) (go (met (e .needs) ps))
       where
         go : (b : Bool)
-            → cond (not b) none (search (v ++ ((e .op, O .answers s (e .op)) ∷ [])) (O .after s (e .op)) (remaining-on t) (flights-on t))
+            → cond (not b) none (search (v ++ ((e .op, O .answers s (e .op)) ∷ [])) (held (O .after s (e .op))) (remaining-on t) (flights-on t))
             ≡ tried t e b (some (O .answers s (e .op)))
         go true = goes-on t _ _
         go false = refl
 
     -- Case 2
-    remaining-agrees : (t : ℕ) (e : Entry O) (q : O .Ret) (p : K .InFlight × O .Ret) (m : Queues O K S) → next rows ps t ≡ some e
+    remaining-agrees : (t : ℕ) (e : Entry O) (q : O .Ret) (p : K .InFlight × O .Ret) (m : Queues K S) → next rows ps t ≡ some e
         → p ≡ (flight (e .op) (e .needs), q) → m ≡ remaining-on t → flights ≡ flights-on t
-        → try-remaining O K S search v s remaining flights p m ≡ tried t e (met (e .needs) ps) (checked O (O .ok s (e .op) q) q)
+        → try-remaining K S Obj search v (held s) remaining flights p m ≡ tried t e (met (e .needs) ps) (checked O (O .ok s (e .op) q) q)
     remaining-agrees t e q p m n c i f =
-        rw (c, i, f, agrees .operates (e .op) (e .needs), agrees .violates ps t e many n) (go (met (e .needs) ps) (O .ok s (e .op) q))
+        rw (c, i, f, agrees .operates (e .op) (e .needs), agrees .violates ps t e many n, refers .says s (e .op) q (is-own t e n))
+        (go (met (e .needs) ps) (O .ok s (e .op) q) refl)
       where
-        go : (b k : Bool)
-            → cond (not b) none (cond k (search (v ++ ((e .op, q) ∷ [])) (O .after s (e .op)) (remaining-on t) (flights-on t)) none)
+        go : (b k : Bool) → O .ok s (e .op) q ≡ k
+            → cond (not b) none
+            (cond k (search (v ++ ((e .op, q) ∷ [])) (Obj .is-valid-step (held s) (e .op) q .1) (remaining-on t) (flights-on t)) none)
             ≡ tried t e b (checked O k q)
-        go true true = goes-on t _ _
-        go true false = refl
-        go false true = refl
-        go false false = refl
+        go true true h = rw (refers .leaves s (e .op) q (is-own t e n) h) (goes-on t _ _)
+        go true false h = refl
+        go false true h = refl
+        go false false h = refl
 
     -- a thread that has nothing left is passed over
-    passed-over : (t : ℕ) (r : List (Entry O)) (m : Queues O K S) → get flights t ≡ none → looped (entry t (if-used O K flight S r []) m) ≡ looped m
+    passed-over : (t : ℕ) (r : List (Entry O)) (m : Queues K S) → get flights t ≡ none → looped (entry t (if-used O K flight S r []) m) ≡ looped m
     passed-over t [] m f = refl
     passed-over t (e ∷ r) m f = rw f
 
     -- thread t's turn, and then the rest
-    thread-agrees : (t : ℕ) (m : Queues O K S) (rest : Tree (Step (space O rows))) → t < length rows → looped m ≡ answered rest
+    thread-agrees : (t : ℕ) (m : Queues K S) (rest : Tree (Step (space O rows))) → t < length rows → looped m ≡ answered rest
         → looped (entry t (left O K flight S (row O rows t, getD ps t 0)) m)
         ≡ answered (branch (space O rows) below t (trying O here t (next rows ps t)) rest)
     thread-agrees t m rest there h = go (turn O K flight S rows ps t (shaped t) many there)
       where
-        each : Option (List (S .Remaining)) → Option (TotalOrder O)
+        each : Option (List (S .Remaining)) → Option (TotalOrder (O .Op) (O .Ret))
         each o = looped (entry t o m)
 
         go : Turn O K flight S rows ps t
@@ -157,7 +153,7 @@ module _ (O : Object) (K : Keeps (O .Op) (O .Ret)) (flight : O .Op → List ℕ 
             ∙ ap (λ (z : Option (Entry O)). answered (branch (space O rows) below t (trying O here t z) rest)) (sym n)
         go (flying {e = e} n g l f q r) =
             ap each l
-            ∙ ap₂ or-else (ap (try-in-flight O K S search v s remaining flights t) f ∙ flight-agrees t e n q r) h
+            ∙ ap₂ or-else (ap (try-in-flight K S Obj search v (held s) remaining flights t) f ∙ flight-agrees t e n q r) h
             ∙ branch-agrees t e _ _ rest n refl (ap (gives O s (e .op)) g)
         go (completed {e = e} {q = q} {rest = cs} n g l i f) =
             ap each l

@@ -21,7 +21,7 @@ use Rattle.judging_meaning.specs.Serialize.{Serializes, Queues, behind, 
 use Rattle.judging_meaning.specs.Remaining.{left, queues-at, found-there}
 
 -- What is asked of a tester's way to serialize, of those rows.
-module _ (O : Object) (K : Keeps (O .Op) (O .Ret)) (flight : O .Op → List ℕ → K .InFlight) (S : Serializes O K) (rows : Rows O) where
+module _ (O : Object) (K : Keeps (O .Op) (O .Ret)) (flight : O .Op → List ℕ → K .InFlight) (S : Serializes K) (rows : Rows O) where
   pub record Agrees : Type 0 where
     -- what is popped is what was completed
     pub pops : (i : ℕ) (op : O .Op) (needs : List ℕ) (q : O .Ret) → S .popped (S .queued i (K .completed (flight op needs) q)) ≡ (flight op needs, q)
@@ -40,7 +40,7 @@ module _ (O : Object) (rows : Rows O) where
     pub own : (t k : ℕ) (e : Entry O) → Is O rows t k e → getD (e .needs) t 0 ≡ 0
     pub most : (t k : ℕ) (e : Entry O) → Is O rows t k e → (u : ℕ) → getD (e .needs) u 0 ≤ completed O (row O rows u)
 
-  pub sequential-agrees : Noteless → Agrees O (sequential (O .Op) (O .Ret)) (without-notes O) (sequential-serializes O) rows
+  pub sequential-agrees : Noteless → Agrees O (sequential (O .Op) (O .Ret)) (without-notes O) (sequential-serializes (O .Op) (O .Ret)) rows
   sequential-agrees w = record {
     pops = λ i op needs q. refl;
     operates = λ op needs. refl;
@@ -68,19 +68,19 @@ module _ (O : Object) where
   abbrev K : Keeps (O .Op) (O .Ret)
   K = linearizable (O .Op) (O .Ret)
 
-  abbrev S : Serializes O K
-  S = linearizable-serializes O
+  abbrev S : Serializes K
+  S = linearizable-serializes (O .Op) (O .Ret)
 
   -- what is noted of a thread is still in its queue
-  abbrev noted : Queues O K S → ℕ → Option ℕ → Bool
+  abbrev noted : Queues K S → ℕ → Option ℕ → Bool
   noted m u none = false
   noted m u (some n) = behind n (get m u)
 
-  any-entry : (m : Queues O K S) (u : ℕ) (o : Option ℕ) (cs : Map ℕ) → any-behind m (entry u o cs) ≡ noted m u o || any-behind m cs
+  any-entry : (m : Queues K S) (u : ℕ) (o : Option ℕ) (cs : Map ℕ) → any-behind m (entry u o cs) ≡ noted m u o || any-behind m cs
   any-entry m u none cs = refl
   any-entry m u (some n) cs = refl
 
-  any-noted : (m : Queues O K S) (ns ps : List ℕ) (k : ℕ)
+  any-noted : (m : Queues K S) (ns ps : List ℕ) (k : ℕ)
       → ((i u : ℕ) → u ≡ k + i → noted m u (index O (getD ns i 0)) ≡ not (leb (getD ns i 0) (getD ps i 0)))
       → ((i : ℕ) → length ps ≤ i → getD ns i 0 ≡ 0) → any-behind m (tabled (index O) k ns) ≡ not (met ns ps)
   any-noted m [] ps k f z = refl
@@ -112,7 +112,7 @@ module _ (O : Object) where
   queue-behind [] p n h = absurd (omega arith)
   queue-behind (x ∷ r) p n h = go (completes O K (with-notes O) (drop p (x ∷ r))) (none-completed (x ∷ r) p)
     where
-      go : (cs : List (K .Complete)) → (cs ≡ [] → completed O (x ∷ r) ≤ p) → behind n (some (queue O K S p cs)) ≡ not (leb (suc n) p)
+      go : (cs : List (K .Complete)) → (cs ≡ [] → completed O (x ∷ r) ≤ p) → behind n (some (queue K S p cs)) ≡ not (leb (suc n) p)
       go [] f = rw (le-leb (suc n) p (omega (arith, f refl)))
       go (c ∷ cs) f = not-leb n p
 
