@@ -1,10 +1,11 @@
 -- What a judge's answers mean.
 pub mod Judging
--- The Rust's search for an order, transcribed; what an order and a verdict are there; and that the judge's answer is the Rust's.
+-- The Rust's search for an order, transcribed; what an order and a verdict are there; and that the judge's answer, and its attempts, are the Rust's.
 pub mod Serialize
 pub mod Shown
 pub mod RustVerdict
 pub mod RustJudge
+pub mod TurnsCounted
 -- That the answers mean it.
 pub mod Within
 pub mod Judged

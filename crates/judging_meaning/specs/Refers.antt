@@ -9,7 +9,7 @@ use Rattle.values.specs.Value.{pick}
 use Rattle.families.specs.Family.{Family, opFamily}
 use Rattle.families.specs.Families.{State, families, right, after}
 use Rattle.families.specs.Placing.{leavesWrong}
-use Rattle.families.specs.RustObjects.{RefObj, SequentialSpec, invoke, is-valid-step, ref-objects}
+use Rattle.families.specs.RustObjects.{RefObj, SequentialSpec, ref-objects}
 use Rattle.families.specs.RustFamilies.{holding, invoke-same, step-same}
 use Rattle.families.specs.declared.Op.{Op}
 use Rattle.families.specs.declared.Ret.{Ret}

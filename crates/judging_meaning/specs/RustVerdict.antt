@@ -29,11 +29,11 @@ use Rattle.recording_meaning.specs.Lawful.{Lawful, sequential-lawful, lineariza
 use Rattle.recording_meaning.specs.Rust.{len}
 use Rattle.recording_meaning.specs.RustMaps.{in-maps}
 use Rattle.recording_meaning.specs.RustReading.{InRust, sequential-in-rust, linearizability-in-rust, RustTester, in-rust, StandsFor, exactly, strayed}
-use Rattle.judging_meaning.specs.Serialize.{TotalOrder, Serializes, queues, serialize, serialized-history, sequential-serializes, linearizable-serializes}
+use Rattle.judging_meaning.specs.Serialize.{Came, search-history, TotalOrder, Serializes, queues, serialize, serialized-history, sequential-serializes, linearizable-serializes}
 use Rattle.judging_meaning.specs.Shown.{shown, shown-verdict}
 use Rattle.judging_meaning.specs.Violations.{Agrees, sequential-agrees, linearizable-agrees}
 use Rattle.judging_meaning.specs.Refers.{families-refer}
-use Rattle.judging_meaning.specs.SerializeAgrees.{serialized-agrees, levels-enough}
+use Rattle.judging_meaning.specs.SerializeAgrees.{came, serialized-agrees, levels-enough}
 use Rattle.judging_meaning.specs.RowRecord.{rows-own}
 use Rattle.judging_meaning.specs.RowNotes.{sequential-noteless, linearizability-fits}
 
@@ -49,9 +49,16 @@ module _ (rows : Rows families) where
   told-none none h = refl
 
 module _ (M : Model) (R : InRust M) (S : Serializes (R .keeps)) where
-  -- What `serialized_history` answers of the Rust's tester that a tester reads as.
+  -- What the search of the Rust's tester that a tester reads as comes to: what `serialized_history` answers, and the turns counted.
+
+  abbrev pub rust-search : M .Tester → Came (TotalOrder Op Ret)
+  rust-search s = search-history (R .keeps) S ref-objects ref-obj (in-rust M R s)
+
   abbrev pub rust-answer : M .Tester → Option (TotalOrder Op Ret)
-  rust-answer s = serialized-history (R .keeps) S ref-objects ref-obj (in-rust M R s)
+  rust-answer s = rust-search s .answer
+
+  abbrev pub rust-turns : M .Tester → ℕ
+  rust-turns s = rust-search s .turns
 
   -- The tree that the judge searches, and its verdict under the budget b.
 
@@ -69,21 +76,25 @@ module _ (M : Model) (R : InRust M) (S : Serializes (R .keeps)) where
     -- so that it is None exactly where there is no order
     pub none-exactly : (s : M .Tester) → M .Lengths s → M .shaped s ≡ true → M .history s .valid ≡ true → (b : ℕ) → count (search-of s) ≤ b
         → (rust-answer s ≡ none) ↔ (verdict-of s b ≡ no-order)
-    -- the levels of the transcription do not bound it: with more of them it answers the same
+    -- the turns of its loops that look at an operation are the attempts
+    pub counted : (s : M .Tester) → M .Lengths s → M .shaped s ≡ true → M .history s .valid ≡ true → rust-turns s ≡ count (search-of s)
+    -- the levels of the transcription do not bound it: with more of them it comes to the same
     pub unbounded : (s : M .Tester) → M .Lengths s → M .shaped s ≡ true → M .history s .valid ≡ true
         → (n : ℕ) → len Op Ret Object (R .keeps) (in-rust M R s) ≤ n
         → serialize (R .keeps) S ref-objects n [] (ref-obj (M .history s .start)) (queues (R .keeps) S (in-rust M R s .history-by-thread))
-        (in-rust M R s .in-flight-by-thread) ≡ rust-answer s
-    -- of a history that is not valid: None
+        (in-rust M R s .in-flight-by-thread) ≡ rust-search s
+    -- of a history that is not valid: None, and no turn
     pub invalid : (s : M .Tester) → M .history s .valid ≡ false → rust-answer s ≡ none
+    pub none-counted : (s : M .Tester) → M .history s .valid ≡ false → rust-turns s ≡ 0
     -- and a stray entry changes nothing
     pub stray : (s : M .Tester) {T : RustTester M R} → StandsFor M R s T → serialized-history (R .keeps) S ref-objects ref-obj T ≡ rust-answer s
+    pub stray-counted : (s : M .Tester) {T : RustTester M R} → StandsFor M R s T → search-history (R .keeps) S ref-objects ref-obj T .turns ≡ rust-turns s
 
-  -- the Rust's answer, by validity
-  abbrev rust-of : M .Tester → Bool → Option (TotalOrder Op Ret)
-  rust-of s b = serialized-history (R .keeps) S ref-objects ref-obj (in-maps families (R .keeps) (R .flight) (M .history s .start) (rows-of M s) b)
+  -- the Rust's search, by validity
+  abbrev rust-of : M .Tester → Bool → Came (TotalOrder Op Ret)
+  rust-of s b = search-history (R .keeps) S ref-objects ref-obj (in-maps families (R .keeps) (R .flight) (M .history s .start) (rows-of M s) b)
 
-  stray-same : (s : M .Tester) {T : RustTester M R} → StandsFor M R s T → serialized-history (R .keeps) S ref-objects ref-obj T ≡ rust-answer s
+  stray-same : (s : M .Tester) {T : RustTester M R} → StandsFor M R s T → search-history (R .keeps) S ref-objects ref-obj T ≡ rust-search s
   stray-same s exactly = refl
   stray-same s (strayed t l v) = rw v
 
@@ -99,20 +110,22 @@ module _ (M : Model) (R : InRust M) (S : Serializes (R .keeps)) where
       Own op = opFamily op ≡ family
 
       -- the Rust's tester, which is valid
-      with-valid : rust-answer s ≡ rust-of s true
+      with-valid : rust-search s ≡ rust-of s true
       with-valid = ap (rust-of s) v
 
-      rust-told : rust-answer s ≡ shown-verdict families (rows-of M s) (told (answer (search-of s)))
-      rust-told =
+      rust-came : rust-search s ≡ came families (rows-of M s) (search-of s)
+      rust-came =
           with-valid
           ∙ serialized-agrees families (R .keeps) (R .flight) S (rows-of M s) ref-objects (holding family) Own (families-refer family) (agrees s z e)
           (means .rows-in-shape s z e) (rows-own M L s z e) ref-obj (M .history s .start) (holds (M .history s .start))
           (object-same (M .history s .start .kind) (M .history s .start .items))
-          ∙ shown-told (rows-of M s) (answer (search-of s))
+
+      rust-told : rust-answer s ≡ shown-verdict families (rows-of M s) (told (answer (search-of s)))
+      rust-told = ap (λ (c : Came (TotalOrder Op Ret)). c .answer) rust-came ∙ shown-told (rows-of M s) (answer (search-of s))
 
       more-levels : (n : ℕ) → len Op Ret Object (R .keeps) (in-rust M R s) ≤ n
           → serialize (R .keeps) S ref-objects n [] (ref-obj (M .history s .start)) (queues (R .keeps) S (in-rust M R s .history-by-thread))
-          (in-rust M R s .in-flight-by-thread) ≡ rust-answer s
+          (in-rust M R s .in-flight-by-thread) ≡ rust-search s
       more-levels n h =
           levels-enough families (R .keeps) (R .flight) S (rows-of M s) ref-objects (holding family) Own (families-refer family) (agrees s z e)
           (means .rows-in-shape s z e) (rows-own M L s z e) ref-obj (M .history s .start) (holds (M .history s .start))
@@ -129,9 +142,12 @@ module _ (M : Model) (R : InRust M) (S : Serializes (R .keeps)) where
         λ n. verdict-told s z e v b h ∙ told-none (rows-of M s) (answer (search-of s)) (sym (rust-told s z e v) ∙ n),
         λ n. rust-told s z e v ∙ ap (shown-verdict families (rows-of M s)) (sym (verdict-told s z e v b h) ∙ n),
       );
+      counted = λ s z e v. ap (λ (c : Came (TotalOrder Op Ret)). c .turns) (rust-came s z e v);
       unbounded = more-levels;
       invalid = λ s v. rw v;
-      stray = stray-same;
+      none-counted = λ s v. rw v;
+      stray = λ s h. ap (λ (c : Came (TotalOrder Op Ret)). c .answer) (stray-same s h);
+      stray-counted = λ s h. ap (λ (c : Came (TotalOrder Op Ret)). c .turns) (stray-same s h);
     }
 
 pub sequential-serialized : Serialized sequentialModel sequential-in-rust (sequential-serializes Op Ret)
