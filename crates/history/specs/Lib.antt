@@ -33,6 +33,7 @@ pub mod Explaining
 pub mod RealTime
 pub mod Theorem
 pub mod Precedence
+pub mod LiteralReading
 -- A legal order of rows, and of the same rows without their notes or before their last events.
 pub mod Alike
 pub mod Earlier

@@ -1,4 +1,5 @@
--- Two readings of L2 are one: what precedes in H on the operations of S, and what precedes in complete(H′).
+-- Two ways to say L2 are one: by what precedes in H on the operations of S, and by what precedes in complete(H′). (By what precedes between operations
+-- that are completed in H is another: LiteralReading.)
 use Prim.Native.Nat.{ℕ, _+_, _≤_, _<_}
 use mathlib.Core.Path.{_≡_, refl, sym, ap, _∙_}
 use mathlib.Core.Logic.{_↔_}
@@ -172,10 +173,10 @@ module _ (O : Object) where
       let b = precedes-complete H′ t j u k i in
       (λ p. b .0 (a .0 p), λ p. a .1 (b .1 p))
 
-  -- L2 either way.
-  pub either-reading : {H H′ S : Events O} → Extension O H H′ → Equivalent O (complete O H′) S
+  -- L2, of the operations of S in H, is that <_complete(H′) is within <_S.
+  pub keeps-time-of-complete : {H H′ S : Events O} → Extension O H H′ → Equivalent O (complete O H′) S
       → KeepsTime O H S ↔ ((t j u k : ℕ) → Precedes O (complete O H′) t j u k → Precedes O S t j u k)
-  either-reading {H} {H′} {S} x q = (
+  keeps-time-of-complete {H} {H′} {S} x q = (
     λ f t j u k p. let i = split-in O (complete O H′) (p .A) (p .B) u k (p .op) (p .split) (p .number) in
         f t j u k (same-precedence x t j u k i .1 p) (let a = same u in omega arith),
     λ f t j u k p i. f t j u k (same-precedence x t j u k (let a = same u in omega arith) .0 p),
