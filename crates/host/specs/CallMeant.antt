@@ -169,7 +169,7 @@ module _ (M : Model) (L : Lawful M) (file : List ℕ) (budget : ℕ) where
     unused-is = by-report (λ (r : Report). drop (r .length) (r .threads) ≡ replicate (capacity - r .length) 255) (λ z. unused M (loadOf M file .tester) found) (λ d. refl);
   }
 
-lawful-of : (model : ℕ) → Lawful (modelOf model)
+pub lawful-of : (model : ℕ) → Lawful (modelOf model)
 lawful-of zero = sequential-lawful
 lawful-of (suc n) = linearizability-lawful
 
