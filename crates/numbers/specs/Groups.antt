@@ -1,11 +1,11 @@
 -- Groups of seven bits: what fits above what.
 use Prim.Native.Nat.{ℕ, zero, suc, _+_, _*_, _%_, _^_, _<_, _≤_}
-use mathlib.Core.Path.{_≡_}
-use mathlib.Core.Bool.{false}
+use mathlib.Core.Path.{_≡_, refl}
+use mathlib.Core.Bool.{true, false}
 use native.Mathlib.Numerals.{add-one}
 use native.Mathlib.Omega.{arith}
 use native.Mathlib.Nat.{pow-succ'}
-use borrow.Author.Tests.{ltb-false}
+use borrow.Author.Tests.{ltb-true, ltb-false}
 use lib.Arith.{digits-lt}
 use Rattle.numbers.specs.Number.{tooBig}
 
@@ -28,6 +28,16 @@ goes-on (suc (suc zero)) b h t l = omega arith
 goes-on (suc (suc (suc zero))) b h t l = omega arith
 goes-on (suc (suc (suc (suc zero)))) b h t l = omega (arith, ltb-false 15 b t)
 goes-on (suc (suc (suc (suc (suc i))))) b h t l = absurd (omega arith)
+
+-- what is too big is a fifth byte above 15
+pub is-fifth : (i b : ℕ) → i ≤ 4 → tooBig i b ≡ true → (i ≡ 4) × (15 < b)
+unfolding tooBig
+is-fifth zero b h t = let z : _≡_ {A = ℕ} 0 1 = cc in absurd (omega arith)
+is-fifth (suc zero) b h t = let z : _≡_ {A = ℕ} 0 1 = cc in absurd (omega arith)
+is-fifth (suc (suc zero)) b h t = let z : _≡_ {A = ℕ} 0 1 = cc in absurd (omega arith)
+is-fifth (suc (suc (suc zero))) b h t = let z : _≡_ {A = ℕ} 0 1 = cc in absurd (omega arith)
+is-fifth (suc (suc (suc (suc zero)))) b h t = (refl, ltb-true 15 b t)
+is-fifth (suc (suc (suc (suc (suc i))))) b h t = absurd (omega arith)
 
 -- a group above i others
 pub sum-lt : (v g i : ℕ) → v < 128 ^ i → g < 128 → v + g * 128 ^ i < 128 ^ (i + 1)
