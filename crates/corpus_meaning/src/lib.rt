@@ -1,0 +1,1 @@
+// Specifications only: there is no code in this crate.
