@@ -10,8 +10,11 @@ pub mod Decoded
 pub mod PlacingUndone
 pub mod Room
 pub mod States
+pub mod ObjectsMade
 pub mod Bare
 pub mod RefusalsExactly
 pub mod RustObjects
 pub mod RustEach
 pub mod RustFamilies
+pub mod BareRefusals
+pub mod Drawn

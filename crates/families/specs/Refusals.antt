@@ -2,6 +2,7 @@
 use mathlib.Core.Bool.{Bool, false}
 use lib.Dec.{eqb}
 use Rattle.values.specs.Value.{pick}
+use Rattle.values.specs.Sizes.{room}
 use Rattle.values.specs.Checks.{inOrder}
 use Rattle.families.specs.Family.{Family, familyOf, opFamily, retFamily, familyNumber}
 use Rattle.objects.specs.Stack.{pushed, depthCheck, lowCheck, stackRoom}
@@ -42,6 +43,12 @@ sizeCheck (Vec d) = lowCheck d
 -- what a constructor says of a start: 9 comes before 8
 unfoldable pub startCheck : Kind → Check
 startCheck k = inOrder (shapeCheck k) (sizeCheck k)
+
+-- an object without room for one value more
+unfoldable pub isFull : Kind → Bool
+isFull (Register v) = false
+isFull (WORegister m) = false
+isFull (Vec d) = eqb d room
 
 -- an operation without room: 7
 

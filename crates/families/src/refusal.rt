@@ -10,8 +10,9 @@ use values::held::Held;
 use values::refusal::Check;
 use values::refusal::Refusal;
 use values::refusal::in_order;
+use values::sizes::FULL;
 ghost use mathlib.Core.Path.{_≡_};
-ghost use Rattle.families.specs.Refusals.{opBelongs, retBelongs, shapeCheck, sizeCheck, startCheck, roomCheck, tookRoom, stepRoom};
+ghost use Rattle.families.specs.Refusals.{opBelongs, retBelongs, shapeCheck, sizeCheck, startCheck, isFull, roomCheck, tookRoom, stepRoom};
 
 // Whether an operation is one of the object's.
 pub fn op_belongs(kind: Kind, op: Op) -> Check
@@ -64,6 +65,17 @@ pub fn check_start(kind: Kind) -> Check
     let shape = check_shape(kind);
     let size = check_size(kind);
     in_order(shape, size)
+}
+
+// Whether an object has no room for one value more.
+pub fn is_full(kind: Kind) -> bool
+    ensures { λ r. ⌜ r ≡ isFull kind ⌝ }
+{
+    match kind {
+        Kind::Register(_) => false,
+        Kind::WORegister(_) => false,
+        Kind::Vec(depth) => depth == FULL,
+    }
 }
 
 // Whether an operation has room.
