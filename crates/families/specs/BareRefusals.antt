@@ -41,7 +41,10 @@ OtherOp k op = opFamily op ≢ familyOf k
 abbrev pub OtherRet : Kind → Ret → Type 0
 OtherRet k ret = retFamily ret ≢ familyOf k
 
--- 7: a stack of 96, a Push on it, and for a step its PushOk.
+abbrev pub OtherStep : Kind → Op → Ret → Type 0
+OtherStep k op ret = OtherOp k op ⊎ OtherRet k ret
+
+-- 7: a Push on a stack of 96; for a step: a Push with PushOk.
 
 abbrev pub Full : Kind → Type 0
 Full k = k ≡ Vec room
@@ -51,6 +54,12 @@ WantsRoom op = (v : ℤ) × (op ≡ OVec (Push v))
 
 abbrev pub TookRoom : Ret → Type 0
 TookRoom ret = ret ≡ RVec PushOk
+
+abbrev pub Crowded : Kind → Op → Type 0
+Crowded k op = Full k × WantsRoom op
+
+abbrev pub CrowdedStep : Kind → Op → Ret → Type 0
+CrowdedStep k op ret = Full k × WantsRoom op × TookRoom ret
 
 -- A check refuses with r exactly if P holds, and with nothing else.
 abbrev pub Refuses : Refusal → Type 0 → Check → Type 0
@@ -71,6 +80,13 @@ unfolding shapeCheck
 deep-refused (Register v) = inr (refl, λ x. let z : _≡_ {A = ℕ} 0 1 = cc in omega arith)
 deep-refused (WORegister m) = inr (refl, λ x. let z : _≡_ {A = ℕ} 0 1 = cc in omega arith)
 deep-refused (Vec d) = stack-deep d
+
+pub in-shape-exactly : (k : Kind) → shapeCheck k ≡ Clear ↔ (¬ TooDeep k)
+in-shape-exactly k = go (deep-refused k)
+  where
+    go : Refuses OutOfShape (TooDeep k) (shapeCheck k) → shapeCheck k ≡ Clear ↔ (¬ TooDeep k)
+    go (inl x) = (λ e. absurd (let z : _≡_ {A = ℕ} 0 1 = cc in omega arith), λ n. absurd (n (x .1)))
+    go (inr x) = (λ e. x .1, λ n. x .0)
 
 -- the family
 
@@ -95,11 +111,11 @@ full-exactly (Register v) = (λ e. absurd (let z : _≡_ {A = ℕ} 0 1 = cc in o
 full-exactly (WORegister m) = (λ e. absurd (let z : _≡_ {A = ℕ} 0 1 = cc in omega arith), λ e. absurd (let z : _≡_ {A = ℕ} 0 1 = cc in omega arith))
 full-exactly (Vec d) = (λ e. ap Vec (eqb-true d room e), λ e. eq-eqb d room cc)
 
-stack-full : (d : ℕ) (p : VecOp) → Refuses NoRoom (Full (Vec d) × WantsRoom (OVec p)) (stackRoom d p)
+stack-full : (d : ℕ) (p : VecOp) → Refuses NoRoom (Crowded (Vec d) (OVec p)) (stackRoom d p)
 unfolding stackRoom pushes
 stack-full d (Push v) = go (eqb d room) refl
   where
-    go : (b : Bool) → eqb d room ≡ b → Refuses NoRoom (Full (Vec d) × WantsRoom (OVec (Push v))) (pick b (Refused NoRoom) Clear)
+    go : (b : Bool) → eqb d room ≡ b → Refuses NoRoom (Crowded (Vec d) (OVec (Push v))) (pick b (Refused NoRoom) Clear)
     go true e = inl (refl, (ap Vec (eqb-true d room e), (v, refl)))
     go false e = inr (refl, λ x. eqb-false d room e (let q : Vec d ≡ Vec room = x .0 in cc))
 stack-full d Pop = inr (refl, λ x. let z : _≡_ {A = ℕ} 0 1 = cc in omega arith)
@@ -112,11 +128,23 @@ stack-kind (Register v) e = absurd (let z : _≡_ {A = ℕ} 0 1 = cc in omega ar
 stack-kind (WORegister m) e = absurd (let z : _≡_ {A = ℕ} 0 1 = cc in omega arith)
 stack-kind (Vec d) e = (d, refl)
 
-pub room-refused : (k : Kind) (op : Op) → opFamily op ≡ familyOf k → Refuses NoRoom (Full k × WantsRoom op) (roomCheck (heldOf k) op)
+own-room : (k : Kind) (op : Op) → opFamily op ≡ familyOf k → Refuses NoRoom (Crowded k op) (roomCheck (heldOf k) op)
 unfolding roomCheck opFamily heldOf
-room-refused k (ORegister p) e = inr (refl, λ x. let z : _≡_ {A = ℕ} 0 1 = cc in omega arith)
-room-refused k (OWORegister p) e = inr (refl, λ x. let z : _≡_ {A = ℕ} 0 1 = cc in omega arith)
-room-refused k (OVec p) e = let s = stack-kind k e in subst (λ (l : Kind). Refuses NoRoom (Full l × WantsRoom (OVec p)) (roomCheck (heldOf l) (OVec p))) (sym (s .1)) (stack-full (s .0) p)
+own-room k (ORegister p) e = inr (refl, λ x. let z : _≡_ {A = ℕ} 0 1 = cc in omega arith)
+own-room k (OWORegister p) e = inr (refl, λ x. let z : _≡_ {A = ℕ} 0 1 = cc in omega arith)
+own-room k (OVec p) e =
+    let s = stack-kind k e in
+    subst (λ (l : Kind). Refuses NoRoom (Crowded l (OVec p)) (roomCheck (heldOf l) (OVec p))) (sym (s .1)) (stack-full (s .0) p)
+
+own-op-if : (k : Kind) (op : Op) → ¬ OtherOp k op → opFamily op ≡ familyOf k
+own-op-if k op n = go (op-refused k op)
+  where
+    go : Refuses OtherFamily (OtherOp k op) (opBelongs k op) → opFamily op ≡ familyOf k
+    go (inl x) = absurd (n (x .1))
+    go (inr x) = op-exactly k op Clear .0 (x .0)
+
+pub room-refused : (k : Kind) (op : Op) → ¬ OtherOp k op → Refuses NoRoom (Crowded k op) (roomCheck (heldOf k) op)
+room-refused k op n = own-room k op (own-op-if k op n)
 
 -- a return says that room was taken exactly if it is PushOk
 stack-took : (q : VecRet) → pushed q ≡ true ↔ TookRoom (RVec q)
@@ -131,13 +159,13 @@ took-exactly (RRegister q) = (λ e. absurd (let z : _≡_ {A = ℕ} 0 1 = cc in 
 took-exactly (RWORegister q) = (λ e. absurd (let z : _≡_ {A = ℕ} 0 1 = cc in omega arith), λ e. absurd (let z : _≡_ {A = ℕ} 0 1 = cc in omega arith))
 took-exactly (RVec q) = stack-took q
 
-pub step-room-refused : (k : Kind) (op : Op) (ret : Ret) → opFamily op ≡ familyOf k
-    → Refuses NoRoom ((Full k × WantsRoom op) × TookRoom ret) (stepRoom (heldOf k) op ret)
+pub step-room-refused : (k : Kind) (op : Op) (ret : Ret) → ¬ OtherOp k op
+    → Refuses NoRoom (CrowdedStep k op ret) (stepRoom (heldOf k) op ret)
 unfolding stepRoom
-step-room-refused k op ret e = go (tookRoom ret) refl (room-refused k op e)
+step-room-refused k op ret n = go (tookRoom ret) refl (room-refused k op n)
   where
-    go : (b : Bool) → tookRoom ret ≡ b → Refuses NoRoom (Full k × WantsRoom op) (roomCheck (heldOf k) op)
-        → Refuses NoRoom ((Full k × WantsRoom op) × TookRoom ret) (pick b (roomCheck (heldOf k) op) Clear)
-    go true t (inl x) = inl (x .0, (x .1, took-exactly ret .0 t))
-    go true t (inr x) = inr (x .0, λ y. x .1 (y .0))
-    go false t x = inr (refl, λ y. let z : tookRoom ret ≡ true = took-exactly ret .1 (y .1) in let w : _≡_ {A = ℕ} 0 1 = cc in omega arith)
+    go : (b : Bool) → tookRoom ret ≡ b → Refuses NoRoom (Crowded k op) (roomCheck (heldOf k) op)
+        → Refuses NoRoom (CrowdedStep k op ret) (pick b (roomCheck (heldOf k) op) Clear)
+    go true t (inl x) = inl (x .0, (x .1 .0, x .1 .1, took-exactly ret .0 t))
+    go true t (inr x) = inr (x .0, λ y. x .1 (y .0, y .1))
+    go false t x = inr (refl, λ y. let z : tookRoom ret ≡ true = took-exactly ret .1 (y .2) in let w : _≡_ {A = ℕ} 0 1 = cc in omega arith)

@@ -14,7 +14,7 @@ use Rattle.objects.specs.Stack.{storageAnswer, pops}
 use Rattle.families.specs.Family.{familyOf, opFamily, retFamily}
 use Rattle.families.specs.Placing.{answerOf, rightOf, takes, leavesWrong}
 use Rattle.families.specs.Bare.{right-answered}
-use Rattle.families.specs.BareRefusals.{TooDeep, OtherOp, Full, WantsRoom, TookRoom}
+use Rattle.families.specs.BareRefusals.{TooDeep, OtherOp, Full, WantsRoom, TookRoom, Crowded}
 use Rattle.families.specs.declared.Kind.{Kind}
 use Rattle.families.specs.declared.Kind.the-variants.{Register, WORegister, Vec}
 use Rattle.families.specs.declared.Op.{Op}
@@ -57,9 +57,14 @@ crowding k f = record {
   own-ret = ap familyOf (sym f);
 }
 
--- a full stack is not too deep
+-- a full stack is not too deep, and a Push is one of its own
+
 pub full-shaped : (k : Kind) → Full k → ¬ TooDeep k
 full-shaped k f x = let q : room ≡ x .0 = cc in omega arith
+
+pub crowded-own : (k : Kind) (op : Op) → Crowded k op → ¬ OtherOp k op
+unfolding familyOf opFamily
+crowded-own k op x n = n (ap opFamily (x .1 .1) ∙ ap familyOf (sym (x .0)))
 
 -- No: a return of the family that the operation never has, after which the object is as it came.
 

@@ -5,6 +5,7 @@ use mathlib.Core.List.{List, [], _∷_, reverse, reverse-append}
 use lib.ListN.{length, getD, take}
 use lib.Seq.{take-suc}
 use lib.IntN.{ℤ, pos}
+use mathlib.Core.Logic.{_↔_}
 use native.Mathlib.Omega.{arith}
 use Rattle.values.specs.Sizes.{room}
 use Rattle.objects.specs.Stack.{heldValues}
@@ -12,6 +13,8 @@ use Rattle.families.specs.Families.{State}
 use Rattle.families.specs.Family.{Family, registers, write-onces, stacks, familyOf}
 use Rattle.families.specs.Objects.{zeros, newRegister, newOnce, newStack, standIn}
 use Rattle.families.specs.States.{stateOf}
+use Rattle.families.specs.BareRefusals.{TooDeep}
+use Rattle.values.specs.declared.value.Maybe.{Maybe}
 use Rattle.values.specs.declared.value.Maybe.the-variants.{Nothing, Value}
 use Rattle.families.specs.declared.Kind.{Kind}
 use Rattle.families.specs.declared.Kind.the-variants.{Register, WORegister, Vec}
@@ -65,3 +68,17 @@ unfolding standIn familyOf newRegister newOnce newStack stateOf heldValues
 default-made (Register v) = record { of-family = refl; holding = refl; storing = refl }
 default-made (WORegister m) = record { of-family = refl; holding = refl; storing = refl }
 default-made (Vec d) = record { of-family = refl; holding = refl; storing = refl }
+
+-- Only a stack may be made too deep, and is exactly if the depth given is over 96.
+
+pub register-shaped : (v : ℤ) → ¬ TooDeep (newRegister v .kind)
+unfolding newRegister
+register-shaped v x = let z : _≡_ {A = ℕ} 0 1 = cc in omega arith
+
+pub once-shaped : (m : Maybe) → ¬ TooDeep (newOnce m .kind)
+unfolding newOnce
+once-shaped m x = let z : _≡_ {A = ℕ} 0 1 = cc in omega arith
+
+pub stack-shaped : (items : List ℤ) (d : ℕ) → TooDeep (newStack items d .kind) ↔ room < d
+unfolding newStack
+stack-shaped items d = (λ x. let q : d ≡ x .0 = cc in omega arith, λ h. (d, refl, h))

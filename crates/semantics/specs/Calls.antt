@@ -4,11 +4,13 @@ use Rattle.values.specs.Value.{pick}
 use Rattle.families.specs.Objects.{object}
 use Rattle.families.specs.Placing.{heldOf, kindOf, answerOf, rightOf, heldAfter, leavesOf, leavesWrong}
 use Rattle.values.specs.Checks.{inOrder}
-use Rattle.families.specs.Refusals.{opBelongs, retBelongs, shapeCheck, roomCheck, stepRoom}
+use Rattle.families.specs.Refusals.{opBelongs, retBelongs, shapeCheck, isFull, roomCheck, stepRoom}
 use Rattle.families.specs.declared.Kind.{Kind}
 use Rattle.families.specs.declared.Object.{Object}
 use Rattle.families.specs.declared.Op.{Op}
 use Rattle.families.specs.declared.Ret.{Ret}
+use Rattle.values.specs.declared.refusal.Refusal.{Refusal}
+use Rattle.values.specs.declared.refusal.Refusal.the-variants.{OtherFamily, NoRoom, StartTooDeep, OutOfShape}
 use Rattle.values.specs.declared.refusal.Check.{Check}
 use Rattle.values.specs.declared.refusal.Check.the-variants.{Clear, Refused}
 use Rattle.semantics.specs.declared.Answer.{Answer}
@@ -73,10 +75,28 @@ begunBy Clear o = stepped Yes o
 unfoldable pub begunOf : Object → Stepped
 begunOf o = begunBy (shapeCheck (o .kind)) o
 
-abbrev pub thenBy : Said → Stepped → Op → Ret → Stepped
-thenBy Yes s op ret = stepOf (s .object) op ret
-thenBy No s op ret = s
-thenBy (SRefused r) s op ret = s
+-- whether calls could have made a record that says this of its object: 9 where the object is out of shape, or where no step
+-- refuses it so; else what is said is kept
+
+unfoldable pub drawnCheck : Kind → Refusal → Check
+drawnCheck k OtherFamily = Clear
+drawnCheck k NoRoom = pick (isFull k) Clear (Refused OutOfShape)
+drawnCheck k StartTooDeep = Refused OutOfShape
+drawnCheck k OutOfShape = Refused OutOfShape
+
+unfoldable pub saidCheck : Kind → Said → Check
+saidCheck k Yes = shapeCheck k
+saidCheck k No = shapeCheck k
+saidCheck k (SRefused r) = inOrder (shapeCheck k) (drawnCheck k r)
+
+abbrev pub onwardBy : Said → Stepped → Op → Ret → Stepped
+onwardBy Yes s op ret = stepOf (s .object) op ret
+onwardBy No s op ret = s
+onwardBy (SRefused r) s op ret = s
+
+abbrev pub thenBy : Check → Stepped → Op → Ret → Stepped
+thenBy (Refused r) s op ret = stepped (SRefused r) (s .object)
+thenBy Clear s op ret = onwardBy (s .said) s op ret
 
 unfoldable pub thenOf : Stepped → Op → Ret → Stepped
-thenOf s op ret = thenBy (s .said) s op ret
+thenOf s op ret = thenBy (saidCheck (s .object .kind) (s .said)) s op ret

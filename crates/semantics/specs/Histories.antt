@@ -1,12 +1,18 @@
 -- A sequential history: its steps are taken in order up to the first no or refusal, and the object reached there is kept.
-use mathlib.Core.Path.{_≡_, refl}
+use Prim.Native.Nat.{ℕ}
+use mathlib.Core.Path.{_≡_, refl, ap, _∙_}
+use mathlib.Core.Logic.{_≢_, inl, inr}
 use mathlib.Core.List.{List, [], _∷_}
+use native.Mathlib.Omega.{arith}
 use Rattle.families.specs.Refusals.{shapeCheck}
-use Rattle.semantics.specs.Calls.{stepped, stepOf, begunBy, begunOf, thenOf}
+use Rattle.families.specs.BareRefusals.{TooDeep, Refuses, deep-refused}
+use Rattle.semantics.specs.Calls.{stepped, stepOf, begunOf, thenOf}
+use Rattle.semantics.specs.Made.{Made, begun, step, then-steps, then-stays}
+use Rattle.semantics.specs.Then.{begun-deep, begun-shaped}
 use Rattle.families.specs.declared.Object.{Object}
 use Rattle.families.specs.declared.Op.{Op}
 use Rattle.families.specs.declared.Ret.{Ret}
-use Rattle.values.specs.declared.refusal.Refusal.{Refusal}
+use Rattle.values.specs.declared.refusal.Refusal.the-variants.{OutOfShape}
 use Rattle.values.specs.declared.refusal.Check.{Check}
 use Rattle.values.specs.declared.refusal.Check.the-variants.{Clear, Refused as Out}
 use Rattle.semantics.specs.declared.Said.{Said}
@@ -40,35 +46,37 @@ unfoldable pub walked : Stepped → List Turn → Stepped
 walked x [] = x
 walked x (t ∷ ts) = walked (thenOf x (t .op) (t .ret)) ts
 
-module _ (o : Object) where
-  ended-no : (ts : List Turn) → walked (stepped No o) ts ≡ stepped No o
-  unfolding walked thenOf
-  ended-no [] = refl
-  ended-no (t ∷ ts) = ended-no ts
+-- a no or a refusal of a record that calls made stays
+stays : (x : Stepped) → Made x → x .said ≢ Yes → (ts : List Turn) → walked x ts ≡ x
+unfolding walked
+stays x m n [] = refl
+stays x m n (t ∷ ts) = rw (then-stays x (t .op) (t .ret) m n) (stays x m n ts)
 
-  ended-refused : (r : Refusal) (ts : List Turn) → walked (stepped (Refused r) o) ts ≡ stepped (Refused r) o
-  unfolding walked thenOf
-  ended-refused r [] = refl
-  ended-refused r (t ∷ ts) = ended-refused r ts
-
-walked-on : (x : Stepped) (ts : List Turn) → ((o : Object) → walked (stepped Yes o) ts ≡ taken ts o) → walked x ts ≡ onward (x .said) x (taken ts)
-walked-on x ts f = go (x .said) (x .object)
+walked-on : (x : Stepped) → Made x → (ts : List Turn) → (x .said ≡ Yes → walked x ts ≡ taken ts (x .object)) → walked x ts ≡ onward (x .said) x (taken ts)
+walked-on x m ts f = go (x .said) refl
   where
-    go : (s : Said) (o : Object) → walked (stepped s o) ts ≡ onward s (stepped s o) (taken ts)
-    go Yes o = f o
-    go No o = ended-no o ts
-    go (Refused r) o = ended-refused o r ts
+    go : (s : Said) → x .said ≡ s → walked x ts ≡ onward s x (taken ts)
+    go Yes e = f e
+    go No e = stays x m (λ y. let z : _≡_ {A = ℕ} 0 1 = cc in omega arith) ts
+    go (Refused r) e = stays x m (λ y. let z : _≡_ {A = ℕ} 0 1 = cc in omega arith) ts
 
-walked-taken : (ts : List Turn) (o : Object) → walked (stepped Yes o) ts ≡ taken ts o
-unfolding walked taken thenOf
-walked-taken [] o = refl
-walked-taken (t ∷ ts) o = walked-on (stepOf o (t .op) (t .ret)) ts (walked-taken ts)
+walked-taken : (ts : List Turn) (x : Stepped) → Made x → x .said ≡ Yes → walked x ts ≡ taken ts (x .object)
+unfolding walked taken
+walked-taken [] x m e = ap (λ (s : Said). stepped s (x .object)) e
+walked-taken (t ∷ ts) x m e =
+    let y = stepOf (x .object) (t .op) (t .ret) in
+    let n = step (x .object) (t .op) (t .ret) in
+    rw (then-steps x (t .op) (t .ret) m e) (walked-on y n ts (walked-taken ts y n))
 
 -- step by step the calls come to what the history says, for any number of steps
 pub history-walked : (o : Object) (ts : List Turn) → walked (begunOf o) ts ≡ historyOf o ts
-unfolding begunOf historyOf
-history-walked o ts = go (shapeCheck (o .kind))
+unfolding historyOf
+history-walked o ts = go (deep-refused (o .kind))
   where
-    go : (c : Check) → walked (begunBy c o) ts ≡ historyBy c o ts
-    go (Out r) = ended-refused o r ts
-    go Clear = walked-taken ts o
+    go : Refuses OutOfShape (TooDeep (o .kind)) (shapeCheck (o .kind)) → walked (begunOf o) ts ≡ historyOf o ts
+    go (inl x) =
+        let b = begun-deep o (x .1) in
+        rw (x .0) (stays (begunOf o) (begun o) (λ y. let z : _≡_ {A = ℕ} 0 1 = cc in omega arith) ts ∙ b)
+    go (inr x) =
+        let b = begun-shaped o (x .1) in
+        rw (x .0) (walked-taken ts (begunOf o) (begun o) (ap (λ (y : Stepped). y .said) b) ∙ ap (λ (y : Stepped). taken ts (y .object)) b)

@@ -2,6 +2,11 @@ pub mod Calls
 pub mod Clear
 pub mod Invoking
 pub mod Steps
+pub mod Numbers
+pub mod NumbersExactly
+pub mod Shapes
+pub mod Then
+pub mod Made
 pub mod Histories
 pub mod Roomy
 pub mod RustCalls

@@ -8,6 +8,7 @@ use families::Ret;
 use families::placing;
 use families::refusal::check_shape;
 use refusal::check_invoke;
+use refusal::check_said;
 use refusal::check_step;
 use values::refusal::Check;
 use values::refusal::Refusal;
@@ -134,18 +135,23 @@ pub fn is_valid_history(object: Object) -> Stepped
 }
 
 impl Stepped {
-    // The first no or refusal stays.
+    // The first no or refusal stays; a record that calls could not have made gets 9.
     pub fn then(self, op: Op, ret: Ret) -> Self
         ensures { λ r. ⌜ r ≡ thenOf self op ret ⌝ }
     {
         let said = self.said;
-        match said {
-            Said::Yes => {
-                let object = self.object;
-                is_valid_step(object, op, ret)
-            }
-            Said::No => self,
-            Said::Refused(_) => self,
+        let object = self.object;
+        let kind = object.kind;
+        match check_said(kind, said) {
+            Check::Refused(refusal) => Self {
+                said: Said::Refused(refusal),
+                object,
+            },
+            Check::Clear => match said {
+                Said::Yes => is_valid_step(object, op, ret),
+                Said::No => self,
+                Said::Refused(_) => self,
+            },
         }
     }
 }
