@@ -5,6 +5,7 @@ use mathlib.Core.Logic.{_↔_}
 use mathlib.Core.Bool.{Bool, true, false}
 use mathlib.Core.Option.{Option, none, some}
 use mathlib.Core.List.{[]}
+use native.Mathlib.Omega.{arith}
 use Rattle.theory.specs.Tree.{Tree, answer, count}
 use Rattle.theory.specs.Space.{Step}
 use Rattle.theory.specs.Budget.{Verdict, no-order, Judged, told}
@@ -33,7 +34,7 @@ use Rattle.judging_meaning.specs.Serialize.{Came, search-history, TotalO
 use Rattle.judging_meaning.specs.Shown.{shown, shown-verdict}
 use Rattle.judging_meaning.specs.Violations.{Agrees, sequential-agrees, linearizable-agrees}
 use Rattle.judging_meaning.specs.Refers.{families-refer}
-use Rattle.judging_meaning.specs.SerializeAgrees.{came, serialized-agrees, levels-enough}
+use Rattle.judging_meaning.specs.SerializeAgrees.{came, serialize-agrees}
 use Rattle.judging_meaning.specs.RowRecord.{rows-own}
 use Rattle.judging_meaning.specs.RowNotes.{sequential-noteless, linearizability-fits}
 
@@ -109,28 +110,21 @@ module _ (M : Model) (R : InRust M) (S : Serializes (R .keeps)) where
       abbrev Own : Op → Type 0
       Own op = opFamily op ≡ family
 
-      -- the Rust's tester, which is valid
-      with-valid : rust-search s ≡ rust-of s true
-      with-valid = ap (rust-of s) v
+      -- down to as many levels as the Rust's len says, or more
+      levels-came : (n : ℕ) → len Op Ret Object (R .keeps) (in-rust M R s) ≤ n
+          → serialize (R .keeps) S ref-objects n [] (ref-obj (M .history s .start)) (queues (R .keeps) S (in-rust M R s .history-by-thread))
+          (in-rust M R s .in-flight-by-thread) ≡ came families (rows-of M s) (search-of s)
+      levels-came n h =
+          serialize-agrees families (R .keeps) (R .flight) S (rows-of M s) ref-objects (holding family) Own (families-refer family) (agrees s z e)
+          (means .rows-in-shape s z e) (rows-own M L s z e) (M .history s .start) (ref-obj (M .history s .start)) (holds (M .history s .start))
+          (object-same (M .history s .start .kind) (M .history s .start .items)) n h
 
+      -- the Rust's tester is valid, so that it searches
       rust-came : rust-search s ≡ came families (rows-of M s) (search-of s)
-      rust-came =
-          with-valid
-          ∙ serialized-agrees families (R .keeps) (R .flight) S (rows-of M s) ref-objects (holding family) Own (families-refer family) (agrees s z e)
-          (means .rows-in-shape s z e) (rows-own M L s z e) ref-obj (M .history s .start) (holds (M .history s .start))
-          (object-same (M .history s .start .kind) (M .history s .start .items))
+      rust-came = ap (rust-of s) v ∙ levels-came (len Op Ret Object (R .keeps) (in-rust M R s)) (omega arith)
 
       rust-told : rust-answer s ≡ shown-verdict families (rows-of M s) (told (answer (search-of s)))
       rust-told = ap (λ (c : Came (TotalOrder Op Ret)). c .answer) rust-came ∙ shown-told (rows-of M s) (answer (search-of s))
-
-      more-levels : (n : ℕ) → len Op Ret Object (R .keeps) (in-rust M R s) ≤ n
-          → serialize (R .keeps) S ref-objects n [] (ref-obj (M .history s .start)) (queues (R .keeps) S (in-rust M R s .history-by-thread))
-          (in-rust M R s .in-flight-by-thread) ≡ rust-search s
-      more-levels n h =
-          levels-enough families (R .keeps) (R .flight) S (rows-of M s) ref-objects (holding family) Own (families-refer family) (agrees s z e)
-          (means .rows-in-shape s z e) (rows-own M L s z e) ref-obj (M .history s .start) (holds (M .history s .start))
-          (object-same (M .history s .start .kind) (M .history s .start .items)) n h
-          ∙ sym with-valid
 
       verdict-told : (b : ℕ) → count (search-of s) ≤ b → verdict-of s b ≡ told (answer (search-of s))
       verdict-told b h = ap (λ (j : Judged (Step (space families (rows-of M s)))). j .verdict) (judge-enough b (search-of s) h)
@@ -143,7 +137,7 @@ module _ (M : Model) (R : InRust M) (S : Serializes (R .keeps)) where
         λ n. rust-told s z e v ∙ ap (shown-verdict families (rows-of M s)) (sym (verdict-told s z e v b h) ∙ n),
       );
       counted = λ s z e v. ap (λ (c : Came (TotalOrder Op Ret)). c .turns) (rust-came s z e v);
-      unbounded = more-levels;
+      unbounded = λ s z e v n h. levels-came s z e v n h ∙ sym (rust-came s z e v);
       invalid = λ s v. rw v;
       none-counted = λ s v. rw v;
       stray = λ s h. ap (λ (c : Came (TotalOrder Op Ret)). c .answer) (stray-same s h);

@@ -11,13 +11,13 @@ use Rattle.theory.specs.Tree.{Tree, done, stuck, answer, count}
 use Rattle.theory.specs.Space.{Step, row as tries, point, grow}
 use Rattle.history.specs.Object.{Object}
 use Rattle.history.specs.Rows.{Rows, AllShaped}
-use Rattle.history.specs.Space.{Node, unplaced, all-placed, space, size, root}
+use Rattle.history.specs.Space.{Node, all-placed, space, size, root}
 use Rattle.history.specs.Ways.{Steps, searched}
 use Rattle.families.specs.RustObjects.{SequentialSpec}
 use Rattle.recording_meaning.specs.Rust.{Keeps, len}
 use Rattle.recording_meaning.specs.RustMaps.{tabled, history-entry, flight-entry, in-maps}
 use Rattle.recording_meaning.specs.RustSteps.{len-operations}
-use Rattle.judging_meaning.specs.Serialize.{Came, returned, search-history, TotalOrder, Serializes, queues, try-each, serialize}
+use Rattle.judging_meaning.specs.Serialize.{Came, returned, TotalOrder, Serializes, queues, try-each, serialize}
 use Rattle.judging_meaning.specs.Shown.{shown}
 use Rattle.judging_meaning.specs.Within.{all-unplaced}
 use Rattle.judging_meaning.specs.Remaining.{queues-at, flights-at, queues-begin, flights-begin, done-exactly}
@@ -63,7 +63,7 @@ module _ (O : Object) (K : Keeps (O .Op) (O .Ret)) (flight : O .Op → List ℕ 
 
   -- from where the Rust's tester begins
 
-  abbrev from-begin : ℕ → Obj .Self → Came (TotalOrder (O .Op) (O .Ret))
+  abbrev pub from-begin : ℕ → Obj .Self → Came (TotalOrder (O .Op) (O .Ret))
   from-begin n o = serialize K S Obj n [] o (queues K S (tabled (history-entry O K flight) 0 rows)) (tabled (flight-entry O K flight) 0 rows)
 
   begins : (n : ℕ) (s : O .State) → from-begin n (held s) ≡ came O rows (grow (space O rows) n (root O rows s))
@@ -73,18 +73,12 @@ module _ (O : Object) (K : Keeps (O .Op) (O .Ret)) (flight : O .Op → List ℕ 
       (levels-agree n [] (replicate (length rows) 0) s (length-replicate (length rows) 0)
       ∙ ap (λ (a : Option (TotalOrder (O .Op) (O .Ret))). record { answer = a; turns = count tree }) (shown-begin O rows (answer tree)))
 
-  module _ {Start : Type 0} (ref-obj : Start → Obj .Self) (start : Start) (s : O .State) (is : ref-obj start ≡ held s) where
-    -- The Rust's search of the rows comes to what the walk does.
-    pub serialized-agrees : search-history K S Obj ref-obj (in-maps O K flight start rows true) ≡ came O rows (searched O rows s)
-    serialized-agrees = rw (len-operations O K flight 0 rows shaped, sym (all-unplaced O rows), is) (begins (unplaced rows (replicate (length rows) 0)) s)
-
-    -- More levels than the Rust's len change nothing.
-    pub levels-enough : (n : ℕ) → len (O .Op) (O .Ret) Start K (in-maps O K flight start rows true) ≤ n
-        → from-begin n (ref-obj start) ≡ search-history K S Obj ref-obj (in-maps O K flight start rows true)
-    levels-enough n h =
-        let x = root O rows s in
-        ap (from-begin n) is
-        ∙ begins n s
-        ∙ ap (came O rows)
-        (deep-enough O rows n (size O rows x) x (omega (arith, all-unplaced O rows, len-operations O K flight 0 rows shaped)) (omega arith))
-        ∙ sym serialized-agrees
+  -- The Rust's search of the rows comes to what the walk does, down to as many levels as its len says or more.
+  pub serialize-agrees : {Start : Type 0} (start : Start) (o : Obj .Self) (s : O .State) → o ≡ held s
+      → (n : ℕ) → len (O .Op) (O .Ret) Start K (in-maps O K flight start rows true) ≤ n → from-begin n o ≡ came O rows (searched O rows s)
+  serialize-agrees start o s is n h =
+      let x = root O rows s in
+      ap (from-begin n) is
+      ∙ begins n s
+      ∙ ap (came O rows)
+      (deep-enough O rows n (size O rows x) x (omega (arith, all-unplaced O rows, len-operations O K flight 0 rows shaped)) (omega arith))
