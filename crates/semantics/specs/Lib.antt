@@ -8,6 +8,8 @@ pub mod Shapes
 pub mod Then
 pub mod Made
 pub mod Histories
+pub mod HistoriesExactly
+pub mod HistoryNumbers
 pub mod Roomy
 pub mod RustCalls
 pub mod RustHistories
