@@ -2,3 +2,6 @@
 pub mod Traces
 pub mod Later
 pub mod Proved
+-- Records out of shape, one or more for each cause: the list, and the proof.
+pub mod Faults
+pub mod FaultsShown
