@@ -11,7 +11,7 @@ use Rattle.values.specs.Value.{pick}
 use Rattle.values.specs.Sizes.{room, startRoom}
 use Rattle.objects.specs.Stack.{depthCheck, lowCheck}
 use Rattle.families.specs.Family.{Family, familyOf, opFamily, retFamily, familyNumber, same-family}
-use Rattle.families.specs.Objects.{newRegister, newOnce, newStack, standIn}
+use Rattle.families.specs.Objects.{zeros, newRegister, newOnce, newStack, standIn}
 use Rattle.values.specs.Checks.{numberOf, inOrder}
 use Rattle.families.specs.Refusals.{familyCheck, opBelongs, retBelongs, shapeCheck, sizeCheck, startCheck}
 use Rattle.families.specs.declared.Kind.{Kind}
@@ -112,6 +112,13 @@ unfolding standIn newRegister newOnce newStack startCheck shapeCheck sizeCheck i
 stand-in-starts (Register v) = refl
 stand-in-starts (WORegister m) = refl
 stand-in-starts (Vec d) = refl
+
+-- only stacks are refused, and the empty one stands in
+pub stand-in-empty : (k : Kind) (r : Refusal) → startCheck k ≡ Refused r → standIn k ≡ newStack zeros 0
+unfolding standIn startCheck shapeCheck sizeCheck inOrder
+stand-in-empty (Register v) r e = absurd (let z : _≡_ {A = ℕ} 0 1 = cc in omega arith)
+stand-in-empty (WORegister m) r e = absurd (let z : _≡_ {A = ℕ} 0 1 = cc in omega arith)
+stand-in-empty (Vec d) r e = refl
 
 pub stand-in-family : (k : Kind) → familyOf (standIn k .kind) ≡ familyOf k
 unfolding standIn newRegister newOnce newStack familyOf

@@ -6,7 +6,6 @@ use mathlib.Core.Bool.{false}
 use mathlib.Core.List.{List}
 use native.Mathlib.Omega.{arith}
 use lib.ListN.{length, getD}
-use Rattle.history.specs.Lists.{not-both}
 use Rattle.history.specs.Events.{Events}
 use Rattle.history.specs.Papers.{Linearizable, SequentiallyConsistent}
 use Rattle.families.specs.Families.{State, families}
@@ -14,12 +13,11 @@ use Rattle.recording_meaning.specs.Models.{Model, sequentialModel, linearizabil
 use Rattle.recording_meaning.specs.Lawful.{Lawful, sequential-lawful, linearizability-lawful}
 use Rattle.recording_meaning.specs.Inputs.{broken, drawn, taken}
 use Rattle.judging.specs.declared.answer.Verdict.{Verdict}
-use Rattle.judging.specs.declared.answer.Verdict.the-variants.{Order, NoOrder, Undecided, Invalid}
+use Rattle.judging.specs.declared.answer.Verdict.the-variants.{Order, NoOrder, Undecided}
 use Rattle.judging.specs.Answers.{judgeOf}
 use Rattle.judging_meaning.specs.Judging.{start-of, JudgesFresh}
-use Rattle.judging_meaning.specs.Judged.{judges}
 use Rattle.judging_meaning.specs.JudgedFresh.{fresh-sequential, fresh-linearizable}
-use Rattle.judging_meaning.specs.VerdictsOneWay.{fed, verdict-fed}
+use Rattle.judging_meaning.specs.VerdictsOneWay.{verdict-fed}
 use Rattle.corpus.specs.Load.{Load, loadOf}
 use Rattle.corpus.specs.Files.{Whole, whole-loads, number-zero}
 use Rattle.host.specs.Call.{headOf, bytesOf, reportOf, answerSize, modelOf, callNumber}
@@ -66,13 +64,7 @@ module _ (M : Model) (L : Lawful M) (Meets : State → Events families → Type 
     no-order-when = rw met-is at (fresh (c .start) (c .events) budget .no-order-fed kept)
 
     undecided-when : (verdict ≡ Undecided) ↔ (budget < attempts-of M file c)
-    undecided-when = (λ e. judges M L (fed M (c .start) (c .events)) budget .verdict-exactly Undecided .0 e .1, λ h. only h verdict refl)
-      where
-        only : budget < attempts-of M file c → (v : Verdict) → verdict ≡ v → v ≡ Undecided
-        only h Order e = absurd (omega (arith, order-when .0 e .0))
-        only h NoOrder e = absurd (omega (arith, no-order-when .0 e .0))
-        only h Undecided e = refl
-        only h Invalid e = not-both (fresh (c .start) (c .events) budget .invalid-fed .0 e) kept
+    undecided-when = fresh (c .start) (c .events) budget .undecided-fed kept
 
   tells : Tells M file Meets budget (reportOf M file budget .verdict)
   tells =

@@ -23,7 +23,7 @@ use Rattle.recording_meaning.specs.Reaching.{good-new}
 use Rattle.recording_meaning.specs.Inputs.{broken, give, feed, drawn, taken}
 use Rattle.recording_meaning.specs.TesterFeeding.{step-of, good-give, good-feed, fed-rows, invalid-exactly}
 use Rattle.judging.specs.declared.answer.Verdict.{Verdict}
-use Rattle.judging.specs.declared.answer.Verdict.the-variants.{Order, NoOrder, Invalid}
+use Rattle.judging.specs.declared.answer.Verdict.the-variants.{Order, NoOrder, Undecided, Invalid}
 use Rattle.judging.specs.Answers.{judgeOf}
 use Rattle.judging_meaning.specs.Judging.{start-of, HasOrder, Sound, Unsound, VerdictWhen, JudgesFed, JudgesFresh}
 use Rattle.judging_meaning.specs.Judged.{judges}
@@ -77,6 +77,7 @@ module _ (M : Model) (L : Lawful M) (Meets : State → Events families → Type 
       λ e. let w = exactly NoOrder .0 e in (w .1, λ m. w .2 (has-order .1 m)),
       λ w. exactly NoOrder .1 (sound u, w .0, λ o. w .1 (has-order .0 o)),
     );
+    undecided-fed = λ u. (λ e. exactly Undecided .0 e .1, λ h. exactly Undecided .1 (sound u, h));
   }
     where
       exactly : (v : Verdict) → (judgeOf M fed b .verdict ≡ v) ↔ VerdictWhen M fed b v

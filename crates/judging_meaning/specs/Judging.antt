@@ -95,6 +95,8 @@ module _ (M : Model) where
         → (a .verdict ≡ Order) ↔ ((needed (feed M (M .new start) l) ≤ b) × Meets (start-of (M .new start)) (taken M (M .new start) l))
     pub no-order-fed : broken (drawn M (M .new start) l) ≡ false
         → (a .verdict ≡ NoOrder) ↔ ((needed (feed M (M .new start) l) ≤ b) × (Meets (start-of (M .new start)) (taken M (M .new start) l) → ⊥))
+    -- and Undecided exactly if the budget is less than what the search needs
+    pub undecided-fed : broken (drawn M (M .new start) l) ≡ false → (a .verdict ≡ Undecided) ↔ (b < needed (feed M (M .new start) l))
 
   abbrev pub JudgesFresh : (State → Events families → Type 0) → Type 0
   JudgesFresh Meets = (start : Object) (l : Events families) (b : ℕ) → JudgesFed Meets start l b (judgeOf M (feed M (M .new start) l) b)

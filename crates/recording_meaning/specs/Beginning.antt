@@ -6,10 +6,11 @@ use lib.ListN.{replicate, length-replicate}
 use native.Mathlib.Omega.{arith}
 use Rattle.history.specs.Lists.{getD-same}
 use Rattle.values.specs.Sizes.{threads, capacity}
-use Rattle.families.specs.Objects.{standIn}
+use Rattle.families.specs.Objects.{zeros, newStack, standIn}
 use Rattle.families.specs.Refusals.{startCheck}
-use Rattle.families.specs.RefusalsExactly.{stand-in-starts}
+use Rattle.families.specs.RefusalsExactly.{stand-in-starts, stand-in-empty}
 use Rattle.families.specs.declared.Object.{Object}
+use Rattle.values.specs.declared.refusal.Refusal.{Refusal}
 use Rattle.values.specs.declared.refusal.Check.{Check}
 use Rattle.values.specs.declared.refusal.Check.the-variants.{Clear, Refused}
 use Rattle.stepping.specs.Record.{fresh, blankOperation}
@@ -39,6 +40,12 @@ begun-is start = go (startCheck (start .kind))
 pub begun-clear : (start : Object) → startCheck (start .kind) ≡ Clear → begunOf start .history ≡ fresh start
 unfolding startBy
 begun-clear start e = begun-is start ∙ ap (λ (c : Check). fresh (startBy c start)) e
+
+-- the empty stack, where the start is refused
+pub begun-refused : (start : Object) (r : Refusal) → startCheck (start .kind) ≡ Refused r → begunOf start .history ≡ fresh (newStack zeros 0)
+unfolding startBy
+begun-refused start r e =
+    begun-is start ∙ ap (λ (c : Check). fresh (startBy c start)) e ∙ ap fresh (stand-in-empty (start .kind) r e)
 
 pub begun-startable : (start : Object) → startCheck (startOf start .kind) ≡ Clear
 unfolding startBy

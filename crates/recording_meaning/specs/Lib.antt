@@ -27,6 +27,7 @@ pub mod Lawful
 pub mod EventTurns
 pub mod Reaching
 pub mod NumbersExactly
+pub mod Nines
 pub mod TesterFeeding
 pub mod Wellfed
 pub mod Meant

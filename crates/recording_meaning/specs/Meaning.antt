@@ -3,21 +3,25 @@ use Prim.Native.Nat.{ℕ, _≤_}
 use mathlib.Core.Path.{_≡_}
 use mathlib.Core.Logic.{_≢_, _↔_}
 use mathlib.Core.Bool.{true, false}
+use mathlib.Core.List.{[]}
+use lib.ListN.{replicate}
 use Rattle.history.specs.Events.{Events}
 use Rattle.history.specs.Rows.{Rows, AllShaped, operations}
 use Rattle.history.specs.Recorder.{extend, close, new as put, Fed}
 use Rattle.values.specs.Sizes.{threads, capacity}
 use Rattle.values.specs.Value.{pick}
 use Rattle.families.specs.Families.{families}
+use Rattle.families.specs.Objects.{zeros, newStack}
 use Rattle.families.specs.declared.Object.{Object}
 use Rattle.families.specs.declared.Op.{Op}
 use Rattle.families.specs.declared.Ret.{Ret}
 use Rattle.stepping.specs.declared.recorded.Made.{Made}
+use Rattle.stepping.specs.declared.recorded.Made.the-variants.{New, Refused as MRefused}
 use Rattle.stepping.specs.declared.recorded.Recorded.{Recorded}
 use Rattle.stepping.specs.declared.recorded.Recorded.the-variants.{Taken}
-use Rattle.stepping.specs.Record.{invalidated}
+use Rattle.stepping.specs.Record.{fresh, invalidated}
 use Rattle.stepping.specs.Shape.{kindOf}
-use Rattle.stepping.specs.EventSteps.{numberOf, isTaken, begunOf}
+use Rattle.stepping.specs.EventSteps.{numberOf, isTaken}
 use Rattle.recording_meaning.specs.Models.{Model, rows-of, Reached}
 use Rattle.recording_meaning.specs.Numbers.{InvokeWhen, ReturnWhen, MadeWhen}
 use Rattle.recording_meaning.specs.Inputs.{broke, broken, Own, invocations-in, feed, drawn, taken, Wellfed}
@@ -32,16 +36,39 @@ module _ (M : Model) where
     -- any other number: the tester as it came
     pub refused : isTaken r ≡ false → broke r ≡ false → next ≡ s
 
+  -- A fresh tester of an initial object: that very object with its items, a valid history, and no operation of any thread.
+  pub record Fresh (start : Object) (s : M .Tester) : Type 0 where
+    pub starts : M .history s .start ≡ start
+    pub valid : M .history s .valid ≡ true
+    pub no-rows : rows-of M s ≡ replicate threads []
+    pub no-operations : M .len s ≡ 0
+    -- with blanks in every place
+    pub blank : M .history s ≡ fresh start
+
+  -- What a constructor that answers m hands back: for 0 a fresh tester of the start given, for 8 and 9 one of the empty stack.
+  abbrev pub NewLeaves : Object → Made → M .Tester → Type 0
+  NewLeaves start New s = Fresh start s
+  NewLeaves start (MRefused r) s = Fresh (newStack zeros 0) s
+
+  -- 9 is given to the tester s exactly if it is out of shape, and hands it back as it came; a is what the call answers and leaves.
+  pub record NineKeeps (s : M .Tester) (a : Recorded × M .Tester) : Type 0 where
+    pub exactly : (numberOf (a .0) ≡ 9) ↔ (M .shaped s ≡ false)
+    pub keeps : M .shaped s ≡ false → a .1 ≡ s
+
   pub record Means : Type 0 where
-    -- a constructor gives each number exactly under its condition, and leaves the fresh history that it says
+    -- a constructor gives each number exactly under its condition, and hands back what belongs to it
     pub new-number : (start : Object) (m : Made) → (M .made start ≡ m) ↔ MadeWhen start m
-    pub new-history : (start : Object) → M .history (M .new start) ≡ begunOf start .history
+    pub new-leaves : (start : Object) (m : Made) → M .made start ≡ m → NewLeaves start m (M .new start)
     -- every tester that constructors and calls make is in shape
     pub in-shape : {s : M .Tester} → Reached M s → M .shaped s ≡ true
     -- so that none of them gets 9
     pub no-nine-invoke : {s : M .Tester} → Reached M s → (t : ℕ) (op : Op) → numberOf (M .on-invoke s t op .0) ≢ 9
     pub no-nine-return : {s : M .Tester} → Reached M s → (t : ℕ) (ret : Ret) → numberOf (M .on-return s t ret .0) ≢ 9
     pub no-nine-invret : {s : M .Tester} → Reached M s → (t : ℕ) (op : Op) (ret : Ret) → numberOf (M .on-invret s t op ret .0) ≢ 9
+    -- whatever the record, 9 exactly if it is out of shape, and then the tester as it came
+    pub nine-invoke : (s : M .Tester) (t : ℕ) (op : Op) → NineKeeps s (M .on-invoke s t op)
+    pub nine-return : (s : M .Tester) (t : ℕ) (ret : Ret) → NineKeeps s (M .on-return s t ret)
+    pub nine-invret : (s : M .Tester) → M .Lengths s → (t : ℕ) (op : Op) (ret : Ret) → NineKeeps s (M .on-invret s t op ret)
     -- each number exactly under its condition
     pub invoke-number : (s : M .Tester) (t : ℕ) (op : Op) (r : Recorded) → (M .on-invoke s t op .0 ≡ r) ↔ InvokeWhen M s t op r
     pub return-number : (s : M .Tester) (t : ℕ) (ret : Ret) (r : Recorded) → (M .on-return s t ret .0 ≡ r) ↔ ReturnWhen M s t ret r

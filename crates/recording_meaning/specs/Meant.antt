@@ -1,37 +1,37 @@
 -- Recording means what Meaning says, for both testers by one proof.
 use Prim.Native.Nat.{ℕ}
 use mathlib.Core.Path.{_≡_, refl, sym, ap, _∙_, subst}
-use mathlib.Core.Logic.{_≢_, _↔_}
-use mathlib.Core.Bool.{Bool, true, false}
-use native.Mathlib.Omega.{arith}
+use mathlib.Core.Logic.{_↔_}
+use mathlib.Core.Bool.{false}
 use Rattle.history.specs.Lists.{not-both}
 use Rattle.history.specs.Events.{Events}
-use Rattle.history.specs.Rows.{Rows}
+use Rattle.history.specs.Rows.{Rows, operations}
 use Rattle.history.specs.Notes.{Tells, fed-tells}
 use Rattle.history.specs.Recorder.{extend, close, new as put}
-use Rattle.values.specs.Value.{pick}
-use Rattle.values.specs.Checks.{numberOf as refusalNumber}
-use Rattle.families.specs.RefusalsExactly.{op-three, ret-three}
+use Rattle.families.specs.Objects.{zeros, newStack}
+use Rattle.families.specs.RefusalsExactly.{start-exactly}
 use Rattle.families.specs.Families.{families}
 use Rattle.families.specs.declared.Object.{Object}
 use Rattle.families.specs.declared.Op.{Op}
 use Rattle.families.specs.declared.Ret.{Ret}
-use Rattle.values.specs.declared.refusal.Refusal.{Refusal}
 use Rattle.values.specs.declared.refusal.Check.{Check}
-use Rattle.values.specs.declared.refusal.Check.the-variants.{Refused as CRefused}
+use Rattle.values.specs.declared.refusal.Check.the-variants.{Clear, Refused as CRefused}
+use Rattle.stepping.specs.declared.history.History.{History}
 use Rattle.stepping.specs.declared.recorded.Made.{Made}
+use Rattle.stepping.specs.declared.recorded.Made.the-variants.{New, Refused as MRefused}
 use Rattle.stepping.specs.declared.recorded.Recorded.{Recorded}
-use Rattle.stepping.specs.declared.recorded.Recorded.the-variants.{Taken, Refused}
+use Rattle.stepping.specs.declared.recorded.Recorded.the-variants.{Refused}
 use Rattle.stepping.specs.declared.recorded.Reason.{Reason}
-use Rattle.stepping.specs.declared.recorded.Reason.the-variants.{AlreadyInvalid, NoSuchThread, NotOwn, InFlight, NothingInFlight, Full, OutOfShape}
 use Rattle.recording.specs.declared.linearizability.LinearizabilityTester.{LinearizabilityTester}
 use Rattle.recording.specs.declared.sequential_consistency.SequentialConsistencyTester.{SequentialConsistencyTester}
-use Rattle.stepping.specs.Shape.{kindOf, InShape, NotesInShape}
-use Rattle.stepping.specs.EventSteps.{reasonNumber, numberOf, isTaken, breaks, sizeOf}
+use Rattle.stepping.specs.Record.{fresh}
+use Rattle.stepping.specs.Shape.{InShape, NotesInShape}
+use Rattle.stepping.specs.EventSteps.{isTaken, breaks, sizeOf}
+use Rattle.recording_meaning.specs.Beginning.{begun-clear, begun-refused}
 use Rattle.recording_meaning.specs.Cases.{Barred, barred-keeps}
 use Rattle.recording_meaning.specs.ShapeExactly.{shape-exactly, tester-exactly}
 use Rattle.recording_meaning.specs.Shaping.{rows-shaped}
-use Rattle.recording_meaning.specs.Models.{Model, rows-of, Reached, invoked, sequentialModel, linearizabilityModel}
+use Rattle.recording_meaning.specs.Models.{Model, rows-of, Reached, sequentialModel, linearizabilityModel}
 use Rattle.recording_meaning.specs.Lawful.{Lawful, sequential-lawful, linearizability-lawful}
 use Rattle.recording_meaning.specs.EventTurns.{
   good-of,
@@ -48,26 +48,14 @@ use Rattle.recording_meaning.specs.EventTurns.{
   invoke-turn,
   return-turn,
 }
-use Rattle.recording_meaning.specs.Reaching.{reached-good, reached-shaped}
-use Rattle.recording_meaning.specs.Numbers.{Left, EventWhen, InvokeLeft, ReturnLeft, MadeWhen}
+use Rattle.recording_meaning.specs.Reaching.{good-new, reached-good, reached-shaped}
+use Rattle.recording_meaning.specs.Numbers.{MadeWhen}
 use Rattle.recording_meaning.specs.NumbersExactly.{invoke-exactly, return-exactly, made-exactly}
 use Rattle.recording_meaning.specs.Inputs.{feed, taken}
-use Rattle.recording_meaning.specs.TesterFeeding.{fed-rows, invalid-exactly, len-operations, len-invocations}
+use Rattle.recording_meaning.specs.TesterFeeding.{new-rows, new-valid, fed-rows, invalid-exactly, len-operations, len-invocations}
 use Rattle.recording_meaning.specs.Wellfed.{fed-history}
-use Rattle.recording_meaning.specs.Meaning.{Leaves, Means}
-
--- A tester in shape gives no event 9, where its object refuses with 3 only.
-no-nine : (M : Model) (s : M .Tester) (t : ℕ) (left : Left) {said : Check} → M .shaped s ≡ true → ((r : Refusal) → said ≡ CRefused r → refusalNumber r ≡ 3)
-    → (r : Recorded) → EventWhen M s t said left r → numberOf r ≢ 9
-unfolding numberOf reasonNumber
-no-nine M s t left e three Taken w z = omega arith
-no-nine M s t left e three (Refused AlreadyInvalid) w z = omega arith
-no-nine M s t left e three (Refused NoSuchThread) w z = omega arith
-no-nine M s t left e three (Refused (NotOwn r)) w z = omega (arith, three r (w .3))
-no-nine M s t left e three (Refused InFlight) w z = omega arith
-no-nine M s t left e three (Refused NothingInFlight) w z = omega arith
-no-nine M s t left e three (Refused Full) w z = omega arith
-no-nine M s t left e three (Refused OutOfShape) w z = not-both e w
+use Rattle.recording_meaning.specs.Nines.{no-nine-invoke, no-nine-return, no-nine-invret, nine-invoke, nine-return, nine-invret}
+use Rattle.recording_meaning.specs.Meaning.{Leaves, Fresh, NewLeaves, Means}
 
 module _ (M : Model) (L : Lawful M) where
   refused-leaves : {s : M .Tester} {t : ℕ} {said : Check} {rows : Rows families} {r : Reason} → Barred (M .history s) t said r → Leaves M s rows (Refused r) s
@@ -89,20 +77,25 @@ module _ (M : Model) (L : Lawful M) where
   return-leaves (stray a b h w) = record { recorded = λ e. not-taken e refl; turned-off = λ e. (h, w); refused = λ e b. not-both refl b }
   return-leaves (return-taken i a b h w) = record { recorded = λ e. w; turned-off = λ e. not-both e refl; refused = λ e b. not-both refl e }
 
-  no-nine-invoke : {s : M .Tester} → Reached M s → (t : ℕ) (op : Op) → numberOf (M .on-invoke s t op .0) ≢ 9
-  no-nine-invoke {s} w t op =
-      no-nine M s t (InvokeLeft M s t) (reached-shaped M L w) (op-three (kindOf (M .history s)) op) (M .on-invoke s t op .0)
-      (invoke-exactly M L s t op (M .on-invoke s t op .0) .0 refl)
+  -- what constructors hand back
 
-  no-nine-return : {s : M .Tester} → Reached M s → (t : ℕ) (ret : Ret) → numberOf (M .on-return s t ret .0) ≢ 9
-  no-nine-return {s} w t ret =
-      no-nine M s t (ReturnLeft M s t) (reached-shaped M L w) (ret-three (kindOf (M .history s)) ret) (M .on-return s t ret .0)
-      (return-exactly M L s t ret (M .on-return s t ret .0) .0 refl)
+  new-fresh : (start o : Object) → M .history (M .new start) ≡ fresh o → Fresh M o (M .new start)
+  unfolding fresh
+  new-fresh start o e = record {
+    starts = ap (λ (h : History). h .start) e;
+    valid = new-valid M L start;
+    no-rows = new-rows M L start;
+    no-operations = len-operations M L (M .new start) (good-new M L start) ∙ ap (operations families) (new-rows M L start);
+    blank = e;
+  }
 
-  no-nine-either : {s : M .Tester} (b : Bool) → Reached M s → (t : ℕ) (op : Op) (ret : Ret)
-      → numberOf (pick b (M .on-return (M .on-invoke s t op .1) t ret) (M .on-invoke s t op) .0) ≢ 9
-  no-nine-either true w t op ret = no-nine-return (invoked t op w) t ret
-  no-nine-either false w t op ret = no-nine-invoke w t op
+  new-leaves : (start : Object) (m : Made) → M .made start ≡ m → NewLeaves M start m (M .new start)
+  new-leaves start New e =
+      let w = made-exactly start New .0 (sym (L .makes start) ∙ e) in
+      new-fresh start start (L .begins start .0 ∙ begun-clear start (start-exactly (start .kind) Clear .1 w))
+  new-leaves start (MRefused r) e =
+      let w = made-exactly start (MRefused r) .0 (sym (L .makes start) ∙ e) in
+      new-fresh start (newStack zeros 0) (L .begins start .0 ∙ begun-refused start r (start-exactly (start .kind) (CRefused r) .1 w))
 
   len-out : (s : M .Tester) → M .shaped s ≡ false → M .len s ≡ 0
   unfolding sizeOf
@@ -111,12 +104,14 @@ module _ (M : Model) (L : Lawful M) where
   pub meaning : Means M
   meaning = record {
     new-number = λ start m. subst (λ (x : Made). (x ≡ m) ↔ MadeWhen start m) (sym (L .makes start)) (made-exactly start m);
-    new-history = λ start. L .begins start .0;
+    new-leaves = new-leaves;
     in-shape = λ w. reached-shaped M L w;
-    no-nine-invoke = no-nine-invoke;
-    no-nine-return = no-nine-return;
-    no-nine-invret = λ {s} w t op ret e.
-        no-nine-either (isTaken (M .on-invoke s t op .0)) w t op ret (ap (λ (a : Recorded × M .Tester). numberOf (a .0)) (sym (L .invrets s t op ret)) ∙ e);
+    no-nine-invoke = λ {s} w. no-nine-invoke M L s (reached-shaped M L w);
+    no-nine-return = λ {s} w. no-nine-return M L s (reached-shaped M L w);
+    no-nine-invret = λ {s} w. no-nine-invret M L s (reached-good M L w);
+    nine-invoke = nine-invoke M L;
+    nine-return = nine-return M L;
+    nine-invret = λ s z t. nine-invret M L s t z;
     invoke-number = invoke-exactly M L;
     return-number = return-exactly M L;
     invret-is = L .invrets;

@@ -16,6 +16,7 @@ use Rattle.families.specs.declared.Ret.{Ret}
 use Rattle.values.specs.declared.refusal.Check.{Check}
 use Rattle.values.specs.declared.refusal.Check.the-variants.{Clear}
 use Rattle.stepping.specs.declared.history.History.{History}
+use Rattle.stepping.specs.declared.recorded.Made.the-variants.{New}
 use Rattle.stepping.specs.declared.recorded.Recorded.{Recorded}
 use Rattle.stepping.specs.declared.recorded.Recorded.the-variants.{Refused}
 use Rattle.stepping.specs.declared.recorded.Reason.{Reason}
@@ -48,7 +49,8 @@ use Rattle.recording_meaning.specs.EventTurns.{
 }
 use Rattle.recording_meaning.specs.Reaching.{good-new}
 use Rattle.recording_meaning.specs.Inputs.{Own, invocations-in, give, feed, drawn}
-use Rattle.recording_meaning.specs.TesterFeeding.{step-of, good-give, good-feed, len-operations, new-rows, new-valid, new-count}
+use Rattle.recording_meaning.specs.TesterFeeding.{step-of, good-give, good-feed, len-operations, new-count}
+use Rattle.recording_meaning.specs.Meant.{meaning}
 use Rattle.recording_meaning.specs.RustReading.{
   InRust,
   result-of,
@@ -156,14 +158,18 @@ module _ (M : Model) (L : Lawful M) (R : InRust M) (along : TakesAlong M R) wher
       (and-right (comparable (give M s v .0)) (all-comparable (drawn M (give M s v .1) l)) c) in
       (rw (a .result, r .0), r .1)
 
-  new-stands : (start : Object) → StandsFor M R (M .new start) (rust-new M R start)
-  new-stands start = subst (StandsFor M R (M .new start)) (same-maps M R (M .new start) (M .new start) refl (new-rows M L start) (new-valid M L start)) exactly
+  -- the start that was given is the one that the tester is made with
+  new-stands : (start : Object) → M .made start ≡ New → StandsFor M R (M .new start) (rust-new M R start)
+  new-stands start e =
+      let w = meaning M L .new-leaves start New e in
+      subst (StandsFor M R (M .new start))
+      (same-maps M R (M .new start) (M .new start) refl (w .no-rows) (w .valid) ∙ ap (new Op Ret Object (R .keeps)) (w .starts)) exactly
 
   -- From fresh, for all inputs that draw 0, 1, 4 and 5.
-  same-as-rust : (start : Object) (l : Events families) → all-comparable (drawn M (M .new start) l) ≡ true → SameAsRust M R start l
-  same-as-rust start l c =
+  same-as-rust : (start : Object) → M .made start ≡ New → (l : Events families) → all-comparable (drawn M (M .new start) l) ≡ true → SameAsRust M R start l
+  same-as-rust start e l c =
       let g = good-new M L start in
-      let w = run-agrees l (M .new start) g (new-stands start) c in
+      let w = run-agrees l (M .new start) g (new-stands start e) c in
       record { results = w .0; stands = w .1; lens = len-agrees (feed M (M .new start) l) (good-feed M L l (M .new start) g) (w .1) }
 
   -- While the history is valid, the Rust's tester is exactly what the tester reads as.
@@ -223,7 +229,7 @@ module _ (M : Model) (L : Lawful M) (R : InRust M) (along : TakesAlong M R) wher
     invoke-as = λ s z e. invoke-as-rust M L R along s (good-of M L s z e);
     return-as = λ s z e. return-as-rust M L R along s (good-of M L s z e);
     run-as = same-as-rust;
-    in-sizes = λ start l k f c. same-as-rust start l (all-fit l (M .new start) (good-new M L start) k f (omega (arith, new-count M L start)));
+    in-sizes = λ start e l k f c. same-as-rust start e l (all-fit l (M .new start) (good-new M L start) k f (omega (arith, new-count M L start)));
     while-valid = λ s v w. valid-exactly s v w;
   }
 

@@ -10,6 +10,7 @@ use Rattle.families.specs.Families.{families}
 use Rattle.families.specs.declared.Object.{Object}
 use Rattle.families.specs.declared.Op.{Op}
 use Rattle.families.specs.declared.Ret.{Ret}
+use Rattle.stepping.specs.declared.recorded.Made.the-variants.{New}
 use Rattle.stepping.specs.declared.recorded.Recorded.{Recorded}
 use Rattle.stepping.specs.declared.recorded.Recorded.the-variants.{Taken, Refused}
 use Rattle.stepping.specs.declared.recorded.Reason.the-variants.{AlreadyInvalid, NoSuchThread, NotOwn, InFlight, NothingInFlight, Full, OutOfShape}
@@ -79,9 +80,9 @@ module _ (M : Model) (R : InRust M) where
     exactly : StandsFor s (in-rust s)
     strayed : (t : ℕ) → t < threads → M .history s .valid ≡ false → StandsFor s (with-entry Op Ret Object (R .keeps) (in-rust s) t)
 
-  -- The Rust's new tester, of the object that the tester was made with.
+  -- The Rust's new tester, of the start that was given.
   abbrev pub rust-new : Object → RustTester
-  rust-new start = new Op Ret Object (R .keeps) (M .history (M .new start) .start)
+  rust-new start = new Op Ret Object (R .keeps) start
 
   -- Feeding the Rust.
 
@@ -112,10 +113,10 @@ module _ (M : Model) (R : InRust M) where
     pub return-as : (s : M .Tester) → M .Lengths s → M .shaped s ≡ true → (t : ℕ) (ret : Ret) → comparable (M .on-return s t ret .0) ≡ true
         → on-return Op Ret Object (R .keeps) (in-rust s) t ret
         ≡ answered (result-of (M .on-return s t ret .0)) (left-by (M .on-return s t ret .0) (in-rust (M .on-return s t ret .1)) t)
-    -- from fresh, along inputs that draw nothing else
-    pub run-as : (start : Object) (l : Events families) → all-comparable (drawn M (M .new start) l) ≡ true → SameAsRust start l
+    -- from fresh, where the start draws 0, along inputs that draw nothing else
+    pub run-as : (start : Object) → M .made start ≡ New → (l : Events families) → all-comparable (drawn M (M .new start) l) ≡ true → SameAsRust start l
     -- within document 01's sizes no input draws anything else: threads 0 to 7, the object's own events, at most 64 invocations
-    pub in-sizes : (start : Object) (l : Events families) → ThreadsBelow families threads l → Own (kindOf (M .history (M .new start))) l
+    pub in-sizes : (start : Object) → M .made start ≡ New → (l : Events families) → ThreadsBelow families threads l → Own (kindOf (M .history (M .new start))) l
         → invocations-in l ≤ capacity → SameAsRust start l
     -- while the history is valid, there is no stray entry
     pub while-valid : (s : M .Tester) {T : RustTester} → M .history s .valid ≡ true → StandsFor s T → T ≡ in-rust s
