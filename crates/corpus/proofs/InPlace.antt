@@ -32,7 +32,7 @@ use Rattle.stepping.specs.OneStep.{eventOf, threadOf, comesTo, placeFor, change
 use Rattle.stepping.specs.Admitting.{Fits}
 use Rattle.stepping.specs.Admitting as admitting
 use Rattle.recording_meaning.specs.Models.{linearizabilityModel}
-use Rattle.recording_meaning.specs.Inputs.{give}
+use Rattle.recording_meaning.specs.Inputs.{as-input}
 use Rattle.recording_meaning.specs.Beginning.{begun-clear}
 use Rattle.recording_meaning.specs.Lawful.{linearizability-lawful}
 use Rattle.recording_meaning.specs.EventTurns.{Good, good-shaped}
@@ -40,6 +40,7 @@ use Rattle.recording_meaning.specs.Reaching.{good-new}
 use Rattle.recording_meaning.specs.TesterFeeding.{good-give, new-valid}
 use Rattle.recording_meaning.specs.Marks.{Marks, marks-fresh, marks-extended, marks-completed}
 use Rattle.format.specs.ReadAnswers.{heard}
+use Rattle.corpus.specs.Load.{record-event}
 use Rattle.corpus.specs.LoaderTurns.{comesBy, notedBy}
 
 -- The tester that the loader has in hand: in shape, valid and of an object k, with the marks of what is in flight.
@@ -96,7 +97,7 @@ module _ (h : History) (notes flying : List ℕ) (k : Kind) (S : Standing h note
   handed (Returned t ret) p = linearizabilityAfter p notes
 
   called : (v : CEvent) (a : After) → a ≡ handed v (eventOf (shapedTester s) h v)
-      → (a .recorded ≡ give linearizabilityModel s (heard v) .0) × (a .tester ≡ give linearizabilityModel s (heard v) .1)
+      → (a .recorded ≡ record-event linearizabilityModel s (heard v) .0) × (a .tester ≡ record-event linearizabilityModel s (heard v) .1)
   unfolding linearizabilityInvoke linearizabilityReturn
   called (Invoked t op) a e = (ap (λ (x : After). x .recorded) e, ap (λ (x : After). x .tester) e)
   called (Returned t ret) a e = (ap (λ (x : After). x .recorded) e, ap (λ (x : After). x .tester) e)
@@ -141,8 +142,8 @@ module _ (h : History) (notes flying : List ℕ) (k : Kind) (S : Standing h note
     event-fits y = admitting.event-fits (notesShaped s) h true flying looked v r came y
 
     pub event-taken : isTaken r ≡ true
-        → (r ≡ give linearizabilityModel (linearizability h notes) (heard v) .0)
-        × (linearizability (next v) (noted v) ≡ give linearizabilityModel (linearizability h notes) (heard v) .1)
+        → (r ≡ record-event linearizabilityModel (linearizability h notes) (heard v) .0)
+        × (linearizability (next v) (noted v) ≡ record-event linearizabilityModel (linearizability h notes) (heard v) .1)
     event-taken y =
         called v (linearizabilityAfter (step r (next v)) (noted v))
         (handed-taken v r (next v) y (event-fits y)
@@ -150,9 +151,9 @@ module _ (h : History) (notes flying : List ℕ) (k : Kind) (S : Standing h note
 
     -- a refusal leaves all but the validity
     pub event-refused : isTaken r ≡ false → (b : Bool) → b ≡ validAfter true r
-        → (r ≡ give linearizabilityModel (linearizability h notes) (heard v) .0)
+        → (r ≡ record-event linearizabilityModel (linearizability h notes) (heard v) .0)
         × (linearizability (record { start = h .start; ops = h .ops; count = h .count; done = h .done; valid = b }) notes
-        ≡ give linearizabilityModel (linearizability h notes) (heard v) .1)
+        ≡ record-event linearizabilityModel (linearizability h notes) (heard v) .1)
     event-refused y b q =
         called v (linearizabilityAfter (step r (off b)) notes)
         (handed-refused v r (off b) y
@@ -162,7 +163,7 @@ module _ (h : History) (notes flying : List ℕ) (k : Kind) (S : Standing h note
     pub event-stands : isTaken r ≡ true → Standing (next v) (noted v) (set flying (threadOf v) (change v .mark)) k
     event-stands y = record {
       good = subst (Good linearizabilityModel linearizability-lawful) (sym (event-taken y .1))
-          (good-give linearizabilityModel linearizability-lawful s (S .good) (heard v));
+          (good-give linearizabilityModel linearizability-lawful s (S .good) (as-input (heard v)));
       valid = S .valid;
       own = S .own;
       long = length-set flying (threadOf v) _ ∙ S .long;

@@ -16,12 +16,11 @@ use Rattle.families.specs.declared.Object.{Object}
 use Rattle.stepping.specs.declared.recorded.Recorded.{Recorded}
 use Rattle.stepping.specs.EventSteps.{numberOf as recordedNumber}
 use Rattle.recording_meaning.specs.Models.{Model}
-use Rattle.recording_meaning.specs.Inputs.{give}
 use Rattle.numbers.specs.declared.refusal.Refusal.{Refusal}
 use Rattle.numbers.specs.FileRefusals.{numberOf}
 use Rattle.numbers.specs.Reader.{got, refused}
 use Rattle.format.specs.Format.{header, event}
-use Rattle.corpus.specs.Load.{Load, load, turn, loadFrom, loadOf}
+use Rattle.corpus.specs.Load.{Load, record-event, load, turn, loadFrom, loadOf}
 use Rattle.format.specs.Taking.{first-in}
 use Rattle.format.specs.Lengths.{event-field}
 
@@ -71,15 +70,15 @@ module _ (M : Model) (k : Kind) (s : List ℕ) where
       pub behind : (at < at + used) × (at + used ≤ length s)
       behind = omega (arith, length-drop at s, first-in (event k) 2 (event-field k) (drop at s) v used e)
 
-      module _ (r : Recorded) (next : M .Tester) (n : ℕ) (p : r ≡ give M t v .0) (q : next ≡ give M t v .1) (z : n ≡ recordedNumber r) where
+      module _ (r : Recorded) (next : M .Tester) (n : ℕ) (p : r ≡ record-event M t v .0) (q : next ≡ record-event M t v .1) (z : n ≡ recordedNumber r) where
         pub refused-by : n ≢ 0 → load M n at next ≡ whole
         refused-by d =
-            let f : recordedNumber (give M t v .0) ≢ 0 = λ g. d (z ∙ ap recordedNumber p ∙ g) in
+            let f : recordedNumber (record-event M t v .0) ≢ 0 = λ g. d (z ∙ ap recordedNumber p ∙ g) in
             rw (q, z, p) (rw (e, ne-eqb _ _ f) at (turned R h .2))
 
         pub recorded : n ≡ 0 → Running whole (at + used) next
         recorded d =
-            let f : recordedNumber (give M t v .0) ≡ 0 = sym (z ∙ ap recordedNumber p) ∙ d in
+            let f : recordedNumber (record-event M t v .0) ≡ 0 = sym (z ∙ ap recordedNumber p) ∙ d in
             let w = turned R h in
             let b = behind in
             record {

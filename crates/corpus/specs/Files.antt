@@ -12,33 +12,32 @@ use Rattle.families.specs.declared.Kind.{Kind}
 use Rattle.families.specs.declared.Object.{Object}
 use Rattle.stepping.specs.EventSteps.{numberOf as recordedNumber}
 use Rattle.recording_meaning.specs.Models.{Model}
-use Rattle.recording_meaning.specs.Inputs.{give, feed}
 use Rattle.numbers.specs.declared.refusal.Refusal.{Refusal}
 use Rattle.numbers.specs.FileRefusals.{refusal-number}
 use Rattle.numbers.specs.Reader.{Read, got, refused}
 use Rattle.format.specs.Format.{header, event}
-use Rattle.corpus.specs.Load.{Load, load, loadFrom, loadOf}
+use Rattle.corpus.specs.Load.{Load, record-event, record-events, load, loadFrom, loadOf}
 use Rattle.format.specs.Taking.{first-in}
 use Rattle.format.specs.Lengths.{event-field, header-field}
 use Rattle.format.specs.Spelling.{Spells, spells-more}
 use Rattle.corpus.specs.Loaded.{AllRecorded, Outcome, ended, unread, unrecorded, loaded, not-loaded}
 
 module _ (M : Model) where
-  feed-more : (t : M .Tester) (l : Events families) (v : Event families) → feed M t (l ++ (v ∷ [])) ≡ give M (feed M t l) v .1
-  feed-more t [] v = refl
-  feed-more t (w ∷ l) v = feed-more (give M t w .1) l v
+  record-more : (t : M .Tester) (l : Events families) (v : Event families) → record-events M t (l ++ (v ∷ [])) ≡ record-event M (record-events M t l) v .1
+  record-more t [] v = refl
+  record-more t (w ∷ l) v = record-more (record-event M t w .1) l v
 
   module _ (s : List ℕ) (o : Object) (n : ℕ) (e : header s ≡ got o n) where
     -- A loaded tester is a fresh one of the header's object, fed with events that the file begins with behind its header.
-    pub loaded-fed : (l : Events families) × (m : ℕ) × Spells (o .kind) (drop n s) l m × (loadOf M s .tester ≡ feed M (M .new o) l)
+    pub loaded-fed : (l : Events families) × (m : ℕ) × Spells (o .kind) (drop n s) l m × (loadOf M s .tester ≡ record-events M (M .new o) l)
     loaded-fed = go (loaded M s o n e)
       where
         go : Outcome M (o .kind) (drop n s) n (M .new o) (loadOf M s)
-            → (l : Events families) × (m : ℕ) × Spells (o .kind) (drop n s) l m × (loadOf M s .tester ≡ feed M (M .new o) l)
+            → (l : Events families) × (m : ℕ) × Spells (o .kind) (drop n s) l m × (loadOf M s .tester ≡ record-events M (M .new o) l)
         go (ended l m sp all q r) = (l, m, sp, ap (λ (x : Load M). x .tester) r)
         go (unread l m sp all h why q r) = (l, m, sp, ap (λ (x : Load M). x .tester) r)
         go (unrecorded l m sp all h v used q d r) =
-            (l ++ (v ∷ []), m + used, spells-more (o .kind) l (drop n s) m v used sp q, ap (λ (x : Load M). x .tester) r ∙ sym (feed-more (M .new o) l v))
+            (l ++ (v ∷ []), m + used, spells-more (o .kind) l (drop n s) m v used sp q, ap (λ (x : Load M). x .tester) r ∙ sym (record-more (M .new o) l v))
 
     -- A place of a refusal is that of an event's first byte: inside the file, and behind the header.
     pub place-in : loadOf M s .number ≢ 0 → (6 ≤ loadOf M s .place) × (loadOf M s .place < length s)
@@ -65,7 +64,7 @@ module _ (M : Model) where
     pub recorded : AllRecorded M (M .new start) events
 
   to-end : (l : Events families) (most : ℕ) (k : Kind) (s : List ℕ) (at : ℕ) (t : M .Tester) → length s ≤ most
-      → Spells k s l (length s) → AllRecorded M t l → loadFrom M most k s at t ≡ load M 0 0 (feed M t l)
+      → Spells k s l (length s) → AllRecorded M t l → loadFrom M most k s at t ≡ load M 0 0 (record-events M t l)
   unfolding loadFrom
   to-end [] zero k s at t h sp all = refl
   to-end [] (suc most) k [] at t h sp all = refl
@@ -75,11 +74,11 @@ module _ (M : Model) where
   to-end (v ∷ l) (suc most) k (b ∷ s) at t h sp all =
       let c = first-in (event k) 2 (event-field k) (b ∷ s) v (sp .0) (sp .1) in
       let long = length-drop (sp .0) (b ∷ s) in
-      rw (sp .1, eq-eqb (recordedNumber (give M t v .0)) 0 (all .0))
-      (to-end l most k (drop (sp .0) (b ∷ s)) (at + sp .0) (give M t v .1) (omega (arith, c, long)) (rw long (sp .3)) (all .1))
+      rw (sp .1, eq-eqb (recordedNumber (record-event M t v .0)) 0 (all .0))
+      (to-end l most k (drop (sp .0) (b ∷ s)) (at + sp .0) (record-event M t v .1) (omega (arith, c, long)) (rw long (sp .3)) (all .1))
 
   -- Then it loads.
-  pub whole-loads : (s : List ℕ) (w : Whole s) → loadOf M s ≡ load M 0 0 (feed M (M .new (w .start)) (w .events))
+  pub whole-loads : (s : List ℕ) (w : Whole s) → loadOf M s ≡ load M 0 0 (record-events M (M .new (w .start)) (w .events))
   unfolding loadOf
   whole-loads s w =
       rw (w .head)

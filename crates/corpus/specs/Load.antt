@@ -5,7 +5,7 @@ use mathlib.Core.List.{List, [], _∷_}
 use lib.ListN.{length, drop}
 use lib.IntN.{pos}
 use lib.Dec.{eqb}
-use Rattle.history.specs.Events.{Event}
+use Rattle.history.specs.Events.{Event, Events}
 use Rattle.families.specs.Families.{families}
 use Rattle.families.specs.Objects.{newRegister}
 use Rattle.families.specs.declared.Kind.{Kind}
@@ -13,7 +13,7 @@ use Rattle.families.specs.declared.Object.{Object}
 use Rattle.stepping.specs.declared.recorded.Recorded.{Recorded}
 use Rattle.stepping.specs.EventSteps.{numberOf as recordedNumber}
 use Rattle.recording_meaning.specs.Models.{Model}
-use Rattle.recording_meaning.specs.Inputs.{give as record-event}
+use Rattle.recording_meaning.specs.Inputs.{as-input, as-inputs, give, feed}
 use Rattle.numbers.specs.FileRefusals.{numberOf}
 use Rattle.numbers.specs.Reader.{Read, got, refused}
 use Rattle.format.specs.Format.{header, event}
@@ -25,6 +25,14 @@ pub record Load (M : Model) : Type 0 where
   pub tester : M .Tester
 
 module _ (M : Model) where
+  -- An event is recorded by its one call, and events one after the other.
+
+  abbrev pub record-event : M .Tester → Event families → Recorded × M .Tester
+  record-event t v = give M t (as-input v)
+
+  abbrev pub record-events : M .Tester → Events families → M .Tester
+  record-events t l = feed M t (as-inputs l)
+
   abbrev pub load : ℕ → ℕ → M .Tester → Load M
   load n p t = record { number = n; place = p; tester = t }
 
@@ -36,7 +44,7 @@ module _ (M : Model) where
   -- The whole event is read before it is recorded.
   abbrev pub turn : (List ℕ → ℕ → M .Tester → Load M) → List ℕ → ℕ → M .Tester → Read (Event families) → Load M
   turn go s at t (got v used) =
-      onward go (eqb (recordedNumber (record-event M t v .0)) 0) s at used (record-event M t v)
+      onward go (eqb (recordedNumber (record-event t v .0)) 0) s at used (record-event t v)
   turn go s at t (refused why) = load (numberOf why) at t
 
   -- The events of the bytes, the first of which is byte `at` of the file, to their end; there are at most as many as bytes.

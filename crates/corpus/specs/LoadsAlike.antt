@@ -17,7 +17,7 @@ use Rattle.recording.specs.declared.linearizability.LinearizabilityTester.{Line
 use Rattle.stepping.specs.EventSteps.{numberOf as recordedNumber}
 use Rattle.recording.specs.Testers.{sequential}
 use Rattle.recording_meaning.specs.Models.{sequentialModel, linearizabilityModel}
-use Rattle.recording_meaning.specs.Inputs.{give}
+use Rattle.recording_meaning.specs.Inputs.{as-input}
 use Rattle.recording_meaning.specs.Lawful.{sequential-lawful, linearizability-lawful}
 use Rattle.recording_meaning.specs.EventTurns.{Good}
 use Rattle.recording_meaning.specs.Reaching.{good-new}
@@ -26,7 +26,7 @@ use Rattle.recording_meaning.specs.TestersAlike.{stepOf, given}
 use Rattle.numbers.specs.FileRefusals.{numberOf}
 use Rattle.numbers.specs.Reader.{Read, got, refused}
 use Rattle.format.specs.Format.{header, event}
-use Rattle.corpus.specs.Load.{Load, load, onward, turn, loadFrom, loadBy, loadOf}
+use Rattle.corpus.specs.Load.{Load, record-event, load, onward, turn, loadFrom, loadBy, loadOf}
 
 -- what is loaded, without the notes
 abbrev pub forgetting : Load linearizabilityModel → Load sequentialModel
@@ -54,26 +54,26 @@ from-alike (suc most) k (x ∷ s) at u t a b e =
     Rest = (rest : List ℕ) (next : ℕ) (v : SequentialConsistencyTester) (w : LinearizabilityTester) → GoodS v → GoodL w → v .history ≡ w .history
         → loadFrom sequentialModel most k rest next v ≡ forgetting (loadFrom linearizabilityModel most k rest next w)
 
-    recorded : Rest → (v : Event families) (used : ℕ) → give sequentialModel u v .0 ≡ give linearizabilityModel t v .0
-        → give sequentialModel u v .1 .history ≡ give linearizabilityModel t v .1 .history
-        → (z : Bool) → onward sequentialModel (loadFrom sequentialModel most k) z (x ∷ s) at used (give sequentialModel u v)
-        ≡ forgetting (onward linearizabilityModel (loadFrom linearizabilityModel most k) z (x ∷ s) at used (give linearizabilityModel t v))
+    recorded : Rest → (v : Event families) (used : ℕ) → record-event sequentialModel u v .0 ≡ record-event linearizabilityModel t v .0
+        → record-event sequentialModel u v .1 .history ≡ record-event linearizabilityModel t v .1 .history
+        → (z : Bool) → onward sequentialModel (loadFrom sequentialModel most k) z (x ∷ s) at used (record-event sequentialModel u v)
+        ≡ forgetting (onward linearizabilityModel (loadFrom linearizabilityModel most k) z (x ∷ s) at used (record-event linearizabilityModel t v))
     recorded rec v used r h true =
-        rec (drop used (x ∷ s)) (at + used) (give sequentialModel u v .1) (give linearizabilityModel t v .1)
-        (good-give sequentialModel sequential-lawful u a v) (good-give linearizabilityModel linearizability-lawful t b v) h
-    recorded rec v used r h false = rw r (stands (recordedNumber (give linearizabilityModel t v .0)) at (give sequentialModel u v .1)
-        (give linearizabilityModel t v .1) h)
+        rec (drop used (x ∷ s)) (at + used) (record-event sequentialModel u v .1) (record-event linearizabilityModel t v .1)
+        (good-give sequentialModel sequential-lawful u a (as-input v)) (good-give linearizabilityModel linearizability-lawful t b (as-input v)) h
+    recorded rec v used r h false = rw r (stands (recordedNumber (record-event linearizabilityModel t v .0)) at (record-event sequentialModel u v .1)
+        (record-event linearizabilityModel t v .1) h)
 
     go : (r : Read (Event families)) → Rest → turn sequentialModel (loadFrom sequentialModel most k) (x ∷ s) at u r
         ≡ forgetting (turn linearizabilityModel (loadFrom linearizabilityModel most k) (x ∷ s) at t r)
     go (refused why) rec = stands (numberOf why) at u t e
     go (got v used) rec =
-        let c = given sequentialModel sequential-lawful u a v in
-        let d = given linearizabilityModel linearizability-lawful t b v in
-        let r = c .0 ∙ ap (λ (h : History). stepOf h v .recorded) e ∙ sym (d .0) in
-        let h = c .1 ∙ ap (λ (h : History). stepOf h v .history) e ∙ sym (d .1) in
-        ap (λ (z : ℕ). onward sequentialModel (loadFrom sequentialModel most k) (eqb z 0) (x ∷ s) at used (give sequentialModel u v)) (ap recordedNumber r)
-        ∙ recorded rec v used r h (eqb (recordedNumber (give linearizabilityModel t v .0)) 0)
+        let c = given sequentialModel sequential-lawful u a (as-input v) in
+        let d = given linearizabilityModel linearizability-lawful t b (as-input v) in
+        let r = c .0 ∙ ap (λ (h : History). stepOf h (as-input v) .recorded) e ∙ sym (d .0) in
+        let h = c .1 ∙ ap (λ (h : History). stepOf h (as-input v) .history) e ∙ sym (d .1) in
+        ap (λ (z : ℕ). onward sequentialModel (loadFrom sequentialModel most k) (eqb z 0) (x ∷ s) at used (record-event sequentialModel u v)) (ap recordedNumber r)
+        ∙ recorded rec v used r h (eqb (recordedNumber (record-event linearizabilityModel t v .0)) 0)
 
 new-alike : (o : Object) → sequentialModel .new o .history ≡ linearizabilityModel .new o .history
 new-alike o = sequential-lawful .begins o .0 ∙ sym (linearizability-lawful .begins o .0)

@@ -11,16 +11,15 @@ use Rattle.stepping.specs.EventSteps.{numberOf as recordedNumber, isTaken, begu
 use Rattle.recording.specs.Testers.{newSequential, sequentialInvoke, sequentialReturn, newLinearizability, linearizabilityInvoke, linearizabilityReturn}
 use Rattle.shape.specs.Notes.{notesIn, notesWith}
 use Rattle.recording_meaning.specs.Models.{Model, sequentialModel, linearizabilityModel}
-use Rattle.recording_meaning.specs.Inputs.{feed}
 use Rattle.format.specs.TraceFiles.{trace-3, trace-14, trace-header, trace-spelled}
-use Rattle.corpus.specs.Load.{load, loadOf}
+use Rattle.corpus.specs.Load.{record-events, load, loadOf}
 use Rattle.corpus.specs.Loaded.{AllRecorded}
 use Rattle.corpus.specs.Files.{whole-loads}
 
 -- 14. Trace 3 as a file.
 
 loads : (M : Model) → AllRecorded M (M .new (newRegister (pos 65))) trace-3
-    → loadOf M trace-14 ≡ load M 0 0 (feed M (M .new (newRegister (pos 65))) trace-3)
+    → loadOf M trace-14 ≡ load M 0 0 (record-events M (M .new (newRegister (pos 65))) trace-3)
 loads M all =
     whole-loads M trace-14
     (record { start = newRegister (pos 65); first = 7; events = trace-3; head = trace-header; spelled = trace-spelled; recorded = all })
@@ -37,9 +36,9 @@ all-linearizability = (refl, (refl, (refl, tt)))
 
 -- It loads without refusal to the tester of trace 3's events.
 
-pub sequential-loads : loadOf sequentialModel trace-14 ≡ load sequentialModel 0 0 (feed sequentialModel (sequentialModel .new (newRegister (pos 65))) trace-3)
+pub sequential-loads : loadOf sequentialModel trace-14 ≡ load sequentialModel 0 0 (record-events sequentialModel (sequentialModel .new (newRegister (pos 65))) trace-3)
 sequential-loads = loads sequentialModel all-sequential
 
 pub linearizability-loads : loadOf linearizabilityModel trace-14
-    ≡ load linearizabilityModel 0 0 (feed linearizabilityModel (linearizabilityModel .new (newRegister (pos 65))) trace-3)
+    ≡ load linearizabilityModel 0 0 (record-events linearizabilityModel (linearizabilityModel .new (newRegister (pos 65))) trace-3)
 linearizability-loads = loads linearizabilityModel all-linearizability

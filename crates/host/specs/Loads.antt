@@ -18,7 +18,7 @@ use Rattle.recording_meaning.specs.Models.{Model}
 use Rattle.recording_meaning.specs.Lawful.{Lawful}
 use Rattle.recording_meaning.specs.EventTurns.{good-shaped}
 use Rattle.recording_meaning.specs.Reaching.{good-new}
-use Rattle.recording_meaning.specs.Inputs.{broke, broken, give, feed, drawn}
+use Rattle.recording_meaning.specs.Inputs.{as-input, as-inputs, broke, broken, drawn}
 use Rattle.recording_meaning.specs.TesterFeeding.{step-of, good-feed, invalid-exactly}
 use Rattle.judging.specs.declared.answer.Verdict.the-variants.{Invalid}
 use Rattle.judging.specs.Answers.{judgeOf}
@@ -27,7 +27,7 @@ use Rattle.numbers.specs.declared.refusal.Refusal.the-variants.{TooLong, Unopen
 use Rattle.numbers.specs.FileRefusals.{numberOf}
 use Rattle.numbers.specs.Reader.{Read, got, refused}
 use Rattle.format.specs.Format.{header}
-use Rattle.corpus.specs.Load.{Load, loadOf}
+use Rattle.corpus.specs.Load.{Load, record-event, record-events, loadOf}
 use Rattle.corpus.specs.Loaded.{AllRecorded, Outcome, ended, unread, unrecorded, loaded, not-loaded}
 use Rattle.corpus.specs.Files.{number-zero, whole-loads}
 use Rattle.host.specs.Ordered.{ordered, sound-verdict, invalid-verdict}
@@ -61,9 +61,9 @@ off false = refl
 
 module _ (M : Model) where
   -- what draws 0 does not break
-  pub unbroken : (l : Events families) (t : M .Tester) → AllRecorded M t l → broken (drawn M t l) ≡ false
+  pub unbroken : (l : Events families) (t : M .Tester) → AllRecorded M t l → broken (drawn M t (as-inputs l)) ≡ false
   unbroken [] t all = refl
-  unbroken (v ∷ l) t all = rw (zero-keeps (give M t v .0) (all .0)) (unbroken l (give M t v .1) (all .1))
+  unbroken (v ∷ l) t all = rw (zero-keeps (record-event M t v .0) (all .0)) (unbroken l (record-event M t v .1) (all .1))
 
   module _ (L : Lawful M) (file : List ℕ) (b : ℕ) where
     -- Without refusal the judge never says Invalid.
@@ -71,12 +71,12 @@ module _ (M : Model) where
     sound-loaded z =
         let w = number-zero M file .0 z in
         let fresh = M .new (w .start) in
-        let fed = feed M fresh (w .events) in
+        let fed = record-events M fresh (w .events) in
         let e : loadOf M file .tester ≡ fed = ap (λ (x : Load M). x .tester) (whole-loads M file w) in
         let keeps = unbroken (w .events) fresh (w .recorded) in
         rw e
-        (sound-verdict M fed (ordered M fed b) (good-shaped M L fed (good-feed M L (w .events) fresh (good-new M L (w .start))))
-        (not-off (M .history fed .valid) (λ f. not-both (invalid-exactly M L (w .start) (w .events) .0 f) keeps)))
+        (sound-verdict M fed (ordered M fed b) (good-shaped M L fed (good-feed M L (as-inputs (w .events)) fresh (good-new M L (w .start))))
+        (not-off (M .history fed .valid) (λ f. not-both (invalid-exactly M L (w .start) (as-inputs (w .events)) .0 f) keeps)))
       where
         not-off : (x : Bool) → (x ≡ false → ⊥) → x ≡ true
         not-off true f = refl
@@ -94,11 +94,11 @@ module _ (M : Model) where
         by-outcome o n (ended l m sp all q r) = absurd (⊎-elim (λ e. omega (arith, ap (λ (x : Load M). x .number) r)) (λ e. omega (arith, ap (λ (x : Load M). x .number) r)) h)
         by-outcome o n (unread l m sp all i why q r) = at-file why (ap (λ (x : Load M). x .number) r)
         by-outcome o n (unrecorded l m sp all i v used q d r) =
-            let s = feed M (M .new o) l in
-            let t = give M s v in
+            let s = record-events M (M .new o) l in
+            let t = record-event M s v in
             let k : broke (t .0) ≡ true = recorded-breaks (t .0) (subst Breaking (ap (λ (x : Load M). x .number) r) h) in
             let w : M .history (t .1) .valid ≡ false =
-            step-of M L s (good-feed M L l (M .new o) (good-new M L o)) v .valid ∙ ap (λ (x : Bool). M .history s .valid && not x) k ∙ off (M .history s .valid) in
+            step-of M L s (good-feed M L (as-inputs l) (M .new o) (good-new M L o)) (as-input v) .valid ∙ ap (λ (x : Bool). M .history s .valid && not x) k ∙ off (M .history s .valid) in
             let e : loadOf M file .tester ≡ t .1 = ap (λ (x : Load M). x .tester) r in
             rw e (invalid-verdict M (t .1) (ordered M (t .1) b) w)
 

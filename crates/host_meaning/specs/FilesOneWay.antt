@@ -15,7 +15,8 @@ use Rattle.values.specs.Value.{pick}
 use Rattle.families.specs.declared.Object.{Object}
 use Rattle.stepping.specs.EventSteps.{numberOf as recordedNumber}
 use Rattle.recording_meaning.specs.Models.{Model, sequentialModel, linearizabilityModel}
-use Rattle.recording_meaning.specs.Inputs.{give, feed, drawn}
+use Rattle.recording_meaning.specs.Inputs.{Inputs, as-inputs, drawn}
+use Rattle.recording_meaning.specs.InputLaws.{as-both}
 use Rattle.recording_meaning.specs.TestersAlike.{testers-alike}
 use Rattle.judging.specs.declared.answer.Verdict.{Verdict}
 use Rattle.judging.specs.declared.answer.Verdict.the-variants.{Order, NoOrder, Undecided, Invalid}
@@ -23,7 +24,7 @@ use Rattle.judging_meaning.specs.VerdictsOneWay.{verdict-fed, larger-budget, re
 use Rattle.numbers.specs.Reader.{Read, got, refused}
 use Rattle.format.specs.Format.{header}
 use Rattle.format.specs.Spelling.{Spells, spells-more}
-use Rattle.corpus.specs.Load.{Load, loadOf}
+use Rattle.corpus.specs.Load.{Load, record-event, record-events, loadOf}
 use Rattle.format.specs.Taking.{first-in}
 use Rattle.format.specs.Lengths.{header-field, header-short}
 use Rattle.corpus.specs.Loaded.{AllRecorded, Outcome, ended, unread, unrecorded, loaded, not-loaded}
@@ -68,12 +69,13 @@ larger-budget-keeps file model b c answer h d = go (eqb (callNumber model answer
 
 -- what draws 0 in one model draws 0 in the other
 module _ (M N : Model) where
-  recorded-alike : (l : Events families) (s : M .Tester) (t : N .Tester) → drawn N t l ≡ drawn M s l → AllRecorded M s l → AllRecorded N t l
+  recorded-alike : (l : Events families) (s : M .Tester) (t : N .Tester) → drawn N t (as-inputs l) ≡ drawn M s (as-inputs l) → AllRecorded M s l
+      → AllRecorded N t l
   recorded-alike [] s t e a = tt
   recorded-alike (v ∷ l) s t e a =
-      let first : give N t v .0 ≡ give M s v .0 = cc in
-      let rest : drawn N (give N t v .1) l ≡ drawn M (give M s v .1) l = cc in
-      (ap recordedNumber first ∙ a .0, recorded-alike l (give M s v .1) (give N t v .1) rest (a .1))
+      let first : record-event N t v .0 ≡ record-event M s v .0 = cc in
+      let rest : drawn N (record-event N t v .1) (as-inputs l) ≡ drawn M (record-event M s v .1) (as-inputs l) = cc in
+      (ap recordedNumber first ∙ a .0, recorded-alike l (record-event M s v .1) (record-event N t v .1) rest (a .1))
 
 -- a capture that is whole for the one tester is whole for the other
 whole-alike : (file : List ℕ) → Whole linearizabilityModel file → Whole sequentialModel file
@@ -84,7 +86,7 @@ whole-alike file c = record {
   head = c .head;
   spelled = c .spelled;
   recorded = recorded-alike linearizabilityModel sequentialModel (c .events) (linearizabilityModel .new (c .start)) (sequentialModel .new (c .start))
-      (testers-alike (c .start) (c .events) .same-numbers) (c .recorded);
+      (testers-alike (c .start) (as-inputs (c .events)) .same-numbers) (c .recorded);
 }
 
 -- A file that is green for linearizability, under any budget b, is green or Undecided for sequential consistency, under any budget c.
@@ -98,7 +100,7 @@ green-for-both file b c answer other h k e =
     let l = number-zero linearizabilityModel file .0 (p .0) in
     let s = whole-alike file l in
     let byte = byte-is file 0 c other (x .done k (omega arith)) in
-    let not-red = linearizable-then-sequential (l .start) (l .events) b c (sym (verdict-is linearizabilityModel file b l) ∙ p .1) in
+    let not-red = linearizable-then-sequential (l .start) (as-inputs (l .events)) b c (sym (verdict-is linearizabilityModel file b l) ∙ p .1) in
     let loads = number-zero sequentialModel file .1 s in
     let is = verdict-is sequentialModel file c s in
     by-verdict _ refl (not-red .0) (not-red .1) (λ o. byte ∙ x .said .order-exactly .1 (loads, is ∙ o)) (λ u. byte ∙ x .said .undecided-exactly .1 (loads, is ∙ u))
@@ -111,9 +113,9 @@ green-for-both file b c answer other h k e =
 
 -- all events of a list are recorded, and so are those behind its first ones
 module _ (M : Model) where
-  later-recorded : (l rest : Events families) (t : M .Tester) → AllRecorded M t (l ++ rest) → AllRecorded M (feed M t l) rest
+  later-recorded : (l rest : Events families) (t : M .Tester) → AllRecorded M t (l ++ rest) → AllRecorded M (record-events M t l) rest
   later-recorded [] rest t a = a
-  later-recorded (v ∷ l) rest t a = later-recorded l rest (give M t v .1) (a .1)
+  later-recorded (v ∷ l) rest t a = later-recorded l rest (record-event M t v .1) (a .1)
 
   module _ (file more : List ℕ) (on : Whole M (file ++ more)) where
     same-header : (o : Object) (n : ℕ) → header file ≡ got o n → (o ≡ on .start) × (n ≡ on .first)
@@ -143,7 +145,7 @@ module _ (M : Model) where
             let g : on .events ≡ l ++ (v ∷ f .0) = f .1 ∙ append-assoc l (v ∷ []) (f .0) in
             let a : AllRecorded M (M .new (on .start)) (l ++ (v ∷ f .0))
             = subst (λ (k : Events families). AllRecorded M (M .new (on .start)) k) g (on .recorded) in
-            d (subst (λ (x : Object). recordedNumber (give M (feed M (M .new x) l) v .0) ≡ 0) (sym (same-header o n e .0))
+            d (subst (λ (x : Object). recordedNumber (record-event M (record-events M (M .new x) l) v .0) ≡ 0) (sym (same-header o n e .0))
             (later-recorded l (v ∷ f .0) (M .new (on .start)) a .0))
 
         by-header : (x : Read Object) → header file ≡ x → ⊥
@@ -152,13 +154,16 @@ module _ (M : Model) where
 
 -- no order before, no order after
 no-order-stays : (file more : List ℕ) (b c : ℕ) (was : Whole linearizabilityModel file) (on : Whole linearizabilityModel (file ++ more))
-    → judged-of linearizabilityModel file b .verdict ≡ NoOrder → verdict-fed linearizabilityModel (on .start) (on .events) c ≢ Order
+    → judged-of linearizabilityModel file b .verdict ≡ NoOrder → verdict-fed linearizabilityModel (on .start) (as-inputs (on .events)) c ≢ Order
 no-order-stays file more b c was on e order =
     let M = linearizabilityModel in
     let f = events-further M file more on (was .start) (was .first) (was .head) (was .events) (length (drop (was .first) file)) (was .spelled) in
     let same = same-header M file more on (was .start) (was .first) (was .head) .0 in
-    refused-stays-refused (was .start) (was .events) (f .0) b c (inl (sym (verdict-is M file b was) ∙ e))
-    (ap (λ (o : Object). verdict-fed M o (was .events ++ f .0) c) same ∙ ap (λ (l : Events families). verdict-fed M (on .start) l c) (sym (f .1)) ∙ order)
+    let inputs : as-inputs (on .events) ≡ as-inputs (was .events) ++ as-inputs (f .0) = ap as-inputs (f .1) ∙ as-both (was .events) (f .0) in
+    refused-stays-refused (was .start) (as-inputs (was .events)) (as-inputs (f .0)) b c (inl (sym (verdict-is M file b was) ∙ e))
+    (ap (λ (o : Object). verdict-fed M o (as-inputs (was .events) ++ as-inputs (f .0)) c) same
+    ∙ ap (λ (l : Inputs). verdict-fed M (on .start) l c) (sym inputs)
+    ∙ order)
 
 -- Red: No order, or Invalid.
 abbrev pub Red : ℕ → Type 0

@@ -8,6 +8,7 @@ use Rattle.history.specs.Events.{Events}
 use Rattle.families.specs.Families.{State, families}
 use Rattle.semantics.specs.Invoking.{holds}
 use Rattle.recording_meaning.specs.Models.{Model}
+use Rattle.recording_meaning.specs.Inputs.{as-inputs}
 use Rattle.judging_meaning.specs.Judging.{needed}
 use Rattle.judging_meaning.specs.VerdictsOneWay.{fed}
 use Rattle.corpus.specs.Files.{Whole}
@@ -21,7 +22,7 @@ verdict-byte file model budget answer = getD (callAnswer file model budget answe
 module _ (M : Model) (file : List ℕ) where
   -- The attempts of the search without a budget on what it records.
   abbrev pub attempts-of : Whole M file → ℕ
-  attempts-of c = needed M (fed M (c .start) (c .events))
+  attempts-of c = needed M (fed M (c .start) (as-inputs (c .events)))
 
   module _ (Meets : State → Events families → Type 0) where
     -- The events that it spells, from the object of its header on, meet the model.

@@ -11,7 +11,7 @@ use Rattle.history.specs.Papers.{Linearizable, SequentiallyConsistent}
 use Rattle.families.specs.Families.{State, families}
 use Rattle.recording_meaning.specs.Models.{Model, sequentialModel, linearizabilityModel}
 use Rattle.recording_meaning.specs.Lawful.{Lawful, sequential-lawful, linearizability-lawful}
-use Rattle.recording_meaning.specs.Inputs.{broken, drawn, taken}
+use Rattle.recording_meaning.specs.Inputs.{as-inputs, broken, drawn, taken}
 use Rattle.judging.specs.declared.answer.Verdict.{Verdict}
 use Rattle.judging.specs.declared.answer.Verdict.the-variants.{Order, NoOrder, Undecided}
 use Rattle.judging.specs.Answers.{judgeOf}
@@ -34,12 +34,12 @@ unfolding bytesOf headOf
 byte-is file model budget answer z = ap (λ (l : List ℕ). getD l 0 0) (calls file model budget answer .answered z)
 
 -- What the judge says of a whole capture is what it says of the fresh tester fed with its events.
-pub verdict-is : (M : Model) (file : List ℕ) (budget : ℕ) (c : Whole M file) → judged-of M file budget .verdict ≡ verdict-fed M (c .start) (c .events) budget
+pub verdict-is : (M : Model) (file : List ℕ) (budget : ℕ) (c : Whole M file) → judged-of M file budget .verdict ≡ verdict-fed M (c .start) (as-inputs (c .events)) budget
 verdict-is M file budget c = ap (λ (l : Load M). judgeOf M (l .tester) budget .verdict) (whole-loads M file c)
 
 module _ (M : Model) (L : Lawful M) (Meets : State → Events families → Type 0) (fresh : JudgesFresh M Meets) (file : List ℕ) (budget : ℕ) where
   -- a verdict that is given exactly where P holds of the fresh tester is given of the file exactly where P holds of a whole capture in it
-  by-capture : (v : Verdict) (P : Whole M file → Type 0) → ((c : Whole M file) → (verdict-fed M (c .start) (c .events) budget ≡ v) ↔ P c)
+  by-capture : (v : Verdict) (P : Whole M file → Type 0) → ((c : Whole M file) → (verdict-fed M (c .start) (as-inputs (c .events)) budget ≡ v) ↔ P c)
       → ((loadOf M file .number ≡ 0) × (judged-of M file budget .verdict ≡ v)) ↔ ((c : Whole M file) × P c)
   by-capture v P exactly = (
     λ p. let c = number-zero M file .0 (p .0) in (c, exactly c .0 (sym (verdict-is M file budget c) ∙ p .1)),
@@ -48,23 +48,23 @@ module _ (M : Model) (L : Lawful M) (Meets : State → Events families → Type 
 
   module _ (c : Whole M file) where
     abbrev verdict : Verdict
-    verdict = verdict-fed M (c .start) (c .events) budget
+    verdict = verdict-fed M (c .start) (as-inputs (c .events)) budget
 
-    kept : broken (drawn M (M .new (c .start)) (c .events)) ≡ false
+    kept : broken (drawn M (M .new (c .start)) (as-inputs (c .events))) ≡ false
     kept = unbroken M (c .events) (M .new (c .start)) (c .recorded)
 
     -- all of its events count, from the header's object on
-    met-is : Meets (start-of M (M .new (c .start))) (taken M (M .new (c .start)) (c .events)) ≡ Met M file Meets c
+    met-is : Meets (start-of M (M .new (c .start))) (taken M (M .new (c .start)) (as-inputs (c .events))) ≡ Met M file Meets c
     met-is = rw (all-taken M (c .events) (M .new (c .start)) (c .recorded), begins-with M L file c) refl
 
     order-when : (verdict ≡ Order) ↔ ((attempts-of M file c ≤ budget) × Met M file Meets c)
-    order-when = rw met-is at (fresh (c .start) (c .events) budget .order-fed kept)
+    order-when = rw met-is at (fresh (c .start) (as-inputs (c .events)) budget .order-fed kept)
 
     no-order-when : (verdict ≡ NoOrder) ↔ ((attempts-of M file c ≤ budget) × (Met M file Meets c → ⊥))
-    no-order-when = rw met-is at (fresh (c .start) (c .events) budget .no-order-fed kept)
+    no-order-when = rw met-is at (fresh (c .start) (as-inputs (c .events)) budget .no-order-fed kept)
 
     undecided-when : (verdict ≡ Undecided) ↔ (budget < attempts-of M file c)
-    undecided-when = fresh (c .start) (c .events) budget .undecided-fed kept
+    undecided-when = fresh (c .start) (as-inputs (c .events)) budget .undecided-fed kept
 
   tells : Tells M file Meets budget (reportOf M file budget .verdict)
   tells =

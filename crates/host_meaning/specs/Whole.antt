@@ -13,16 +13,19 @@ use Rattle.stepping.specs.Drawn.{zero-taken}
 use Rattle.recording_meaning.specs.Models.{Model}
 use Rattle.recording_meaning.specs.Lawful.{Lawful}
 use Rattle.recording_meaning.specs.Beginning.{begun-clear}
-use Rattle.recording_meaning.specs.Inputs.{give, taken}
+use Rattle.recording_meaning.specs.Inputs.{as-inputs, taken}
+use Rattle.recording_meaning.specs.InputLaws.{takes-event}
+use Rattle.corpus.specs.Load.{record-event}
 use Rattle.corpus.specs.Loaded.{AllRecorded}
 use Rattle.corpus.specs.Files.{Whole}
 use Rattle.judging_meaning.specs.Judging.{start-of}
 
 module _ (M : Model) where
-  pub all-taken : (l : Events families) (t : M .Tester) → AllRecorded M t l → taken M t l ≡ l
+  pub all-taken : (l : Events families) (t : M .Tester) → AllRecorded M t l → taken M t (as-inputs l) ≡ l
   unfolding isTaken
   all-taken [] t a = refl
-  all-taken (v ∷ l) t a = rw (zero-taken (give M t v .0) (a .0)) (ap (λ (k : Events families). v ∷ k) (all-taken l (give M t v .1) (a .1)))
+  all-taken (v ∷ l) t a =
+      rw (takes-event M t v, zero-taken (record-event M t v .0) (a .0)) (ap (λ (k : Events families). v ∷ k) (all-taken l (record-event M t v .1) (a .1)))
 
   -- the tester starts from the header's object
   pub begins-with : (L : Lawful M) (file : List ℕ) (c : Whole M file) → start-of M (M .new (c .start)) ≡ holds (c .start)

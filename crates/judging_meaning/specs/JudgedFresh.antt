@@ -20,7 +20,7 @@ use Rattle.recording_meaning.specs.Models.{Model, rows-of, sequentialModel, lin
 use Rattle.recording_meaning.specs.Lawful.{Lawful, sequential-lawful, linearizability-lawful}
 use Rattle.recording_meaning.specs.EventTurns.{Good, good-shaped}
 use Rattle.recording_meaning.specs.Reaching.{good-new}
-use Rattle.recording_meaning.specs.Inputs.{broken, give, feed, drawn, taken}
+use Rattle.recording_meaning.specs.Inputs.{Inputs, broken, give, feed, drawn, taken}
 use Rattle.recording_meaning.specs.TesterFeeding.{step-of, good-give, good-feed, fed-rows, invalid-exactly}
 use Rattle.judging.specs.declared.answer.Verdict.{Verdict}
 use Rattle.judging.specs.declared.answer.Verdict.the-variants.{Order, NoOrder, Undecided, Invalid}
@@ -29,7 +29,7 @@ use Rattle.judging_meaning.specs.Judging.{start-of, HasOrder, Sound, Uns
 use Rattle.judging_meaning.specs.Judged.{judges}
 
 -- the initial object stays
-pub start-fed : (M : Model) (L : Lawful M) (l : Events families) (s : M .Tester) → Good M L s → M .history (feed M s l) .start ≡ M .history s .start
+pub start-fed : (M : Model) (L : Lawful M) (l : Inputs) (s : M .Tester) → Good M L s → M .history (feed M s l) .start ≡ M .history s .start
 start-fed M L [] s g = refl
 start-fed M L (v ∷ l) s g = start-fed M L l (give M s v .1) (good-give M L s g v) ∙ step-of M L s g v .start
 
@@ -37,7 +37,7 @@ start-fed M L (v ∷ l) s g = start-fed M L l (give M s v .1) (good-give M L s g
 module _ (M : Model) (L : Lawful M) (Meets : State → Events families → Type 0)
     (meets : (H : Events families) (rows : Rows families) → Fed families (M .keep) threads H rows → (s : State)
     → ((p : Places families) × LegalOrder families rows s p) ↔ Meets s H)
-    (start : Object) (l : Events families) where
+    (start : Object) (l : Inputs) where
   abbrev fresh : M .Tester
   fresh = M .new start
 

@@ -14,7 +14,7 @@ use Rattle.families.specs.Families.{State, families}
 use Rattle.semantics.specs.Invoking.{holds}
 use Rattle.families.specs.declared.Object.{Object}
 use Rattle.recording_meaning.specs.Models.{Model, rows-of}
-use Rattle.recording_meaning.specs.Inputs.{broken, feed, drawn, taken}
+use Rattle.recording_meaning.specs.Inputs.{Inputs, broken, feed, drawn, taken}
 use Rattle.judging.specs.declared.answer.Answer.{Answer}
 use Rattle.judging.specs.declared.answer.Placed.{Placed}
 use Rattle.judging.specs.declared.answer.Verdict.{Verdict}
@@ -85,9 +85,9 @@ module _ (M : Model) where
   abbrev pub Judges : Type 0
   Judges = (s : M .Tester) (b : ℕ) → Answered s b (judgeOf M s b)
 
-  -- A tester fed from fresh, whatever the inputs, is judged by what of them was recorded, where Meets says of events, from an object on, that they
-  -- meet the model.
-  pub record JudgesFed (Meets : State → Events families → Type 0) (start : Object) (l : Events families) (b : ℕ) (a : Answer) : Type 0 where
+  -- A tester fed from fresh, whatever the inputs, of the three calls in any order, is judged by what of them was recorded, where Meets says of events,
+  -- from an object on, that they meet the model.
+  pub record JudgesFed (Meets : State → Events families → Type 0) (start : Object) (l : Inputs) (b : ℕ) (a : Answer) : Type 0 where
     -- Invalid exactly if some input drew 4 or 5
     pub invalid-fed : (a .verdict ≡ Invalid) ↔ (broken (drawn M (M .new start) l) ≡ true)
     -- if none did: Order exactly if the budget covers the search and the events meet the model, No order exactly if it does and they do not
@@ -99,4 +99,4 @@ module _ (M : Model) where
     pub undecided-fed : broken (drawn M (M .new start) l) ≡ false → (a .verdict ≡ Undecided) ↔ (b < needed (feed M (M .new start) l))
 
   abbrev pub JudgesFresh : (State → Events families → Type 0) → Type 0
-  JudgesFresh Meets = (start : Object) (l : Events families) (b : ℕ) → JudgesFed Meets start l b (judgeOf M (feed M (M .new start) l) b)
+  JudgesFresh Meets = (start : Object) (l : Inputs) (b : ℕ) → JudgesFed Meets start l b (judgeOf M (feed M (M .new start) l) b)

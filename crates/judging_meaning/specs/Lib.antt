@@ -11,7 +11,7 @@ pub mod Within
 pub mod Judged
 pub mod JudgedFresh
 -- That verdicts only move one way.
-pub mod FurtherEvents
+pub mod FurtherInputs
 pub mod VerdictsOneWay
 pub mod Accepted
 -- That the two searches agree: what remains in the Rust's maps, when an operation is in violation, a level of the search, and all of them.

@@ -5,7 +5,6 @@ use mathlib.Core.Logic.{inr}
 use mathlib.Core.Bool.{Bool, true, false}
 use mathlib.Core.Option.{Option, none, some}
 use Rattle.theory.specs.Budget.{Verdict as Found, order, no-order, undecided, Judged}
-use Rattle.history.specs.Events.{Events}
 use Rattle.history.specs.Rows.{Rows}
 use Rattle.history.specs.Orders.{Order as Places}
 use Rattle.values.specs.Value.{pick}
@@ -14,13 +13,15 @@ use Rattle.families.specs.RustObjects.{ref-objects, ref-obj}
 use Rattle.families.specs.declared.Object.{Object}
 use Rattle.families.specs.declared.Op.{Op}
 use Rattle.families.specs.declared.Ret.{Ret}
+use Rattle.stepping.specs.declared.recorded.Made.the-variants.{New}
 use Rattle.recording_meaning.specs.Models.{Model, rows-of, sequentialModel, linearizabilityModel}
-use Rattle.recording_meaning.specs.Inputs.{feed}
+use Rattle.recording_meaning.specs.Inputs.{Inputs, events-in, InSizes, feed}
 use Rattle.recording_meaning.specs.Lawful.{Lawful, sequential-lawful, linearizability-lawful}
 use Rattle.recording_meaning.specs.EventTurns.{good-shaped}
 use Rattle.recording_meaning.specs.Reaching.{good-new}
 use Rattle.recording_meaning.specs.TesterFeeding.{good-feed}
-use Rattle.recording_meaning.specs.RustReading.{InRust, sequential-in-rust, linearizability-in-rust, in-rust, rust-new, rust-feed, SameAsRust}
+use Rattle.recording_meaning.specs.RustReading.{InRust, sequential-in-rust, linearizability-in-rust, in-rust, rust-new, rust-feed, AsRust}
+use Rattle.recording_meaning.specs.RustFeeding.{sequential-as-rust, linearizability-as-rust}
 use Rattle.judging.specs.declared.answer.Answer.{Answer}
 use Rattle.judging.specs.declared.answer.Verdict.{Verdict}
 use Rattle.judging.specs.declared.answer.Verdict.the-variants.{Order, NoOrder, Undecided, Invalid}
@@ -55,8 +56,9 @@ module _ (M : Model) (R : InRust M) (S : Serializes (R .keeps)) where
     -- of a history that is not valid both answer None, whatever the budget
     pub same-invalid : (s : M .Tester) → M .history s .valid ≡ false → (b : ℕ)
         → (rust-answer M R S s ≡ none) × (shown-answer (rows-of M s) (judgeOf M s b) ≡ none)
-    -- the Rust's own new tester, fed the same inputs as a fresh tester, answers the same, where the two record the same
-    pub same-fed : (start : Object) (l : Events families) → SameAsRust M R start l → (b : ℕ) → needed M (feed M (M .new start) l) ≤ b
+    -- from inputs to the Rust's answer: within document 01's sizes, the Rust's own new tester of the start given, fed the same inputs, answers the same
+    pub same-fed : (start : Object) → M .made start ≡ New → (l : Inputs) → InSizes (start .kind) (events-in l) → (b : ℕ)
+        → needed M (feed M (M .new start) l) ≤ b
         → serialized-history (R .keeps) S ref-objects ref-obj (rust-feed M R (rust-new M R start) l)
         ≡ shown-answer (rows-of M (feed M (M .new start) l)) (judgeOf M (feed M (M .new start) l) b)
 
@@ -85,7 +87,8 @@ judge-sound M s b h =
     let invalid = withoutOrder Invalid 0 in
     ap (λ (e : Bool). pick e (pick (M .history s .valid) found invalid) invalid) (h .0) ∙ ap (λ (v : Bool). pick v found invalid) (h .1)
 
-module _ (M : Model) (L : Lawful M) (R : InRust M) (S : Serializes (R .keeps)) (serialized : Serialized M R S) where
+module _ (M : Model) (L : Lawful M) (R : InRust M) (S : Serializes (R .keeps)) (recorded : AsRust M R)
+    (serialized : Serialized M R S) where
   invalid-none : (s : M .Tester) → M .history s .valid ≡ false → (b : ℕ) → shown-answer (rows-of M s) (judgeOf M s b) ≡ none
   invalid-none s v b =
       ap (λ (w : Verdict). shown-with w (with-operations families (rows-of M s) (order-in (judgeOf M s b)))) (judges M L s b .verdict-exactly Invalid .1 (inr v))
@@ -107,14 +110,16 @@ module _ (M : Model) (L : Lawful M) (R : InRust M) (S : Serializes (R .keeps)) (
     same-consistent = λ s z e b h.
         ap is-some (same s z e b h) ∙ shown-consistent (judgeOf M s b .verdict) (with-operations families (rows-of M s) (order-in (judgeOf M s b)));
     same-invalid = λ s v b. (serialized .invalid s v, invalid-none s v b);
-    same-fed = λ start l w b h.
+    same-fed = λ start e l w b h.
         let s = feed M (M .new start) l in
         let g = good-feed M L l (M .new start) (good-new M L start) in
-        serialized .stray s (w .stands) ∙ same s (L .lengths s (g .sized) (g .beside)) (good-shaped M L s g) b h;
+        serialized .stray s (recorded .in-sizes start e l w .stands) ∙ same s (L .lengths s (g .sized) (g .beside)) (good-shaped M L s g) b h;
   }
 
 pub sequential-judge-as-rust : JudgesAsRust sequentialModel sequential-in-rust (sequential-serializes Op Ret)
-sequential-judge-as-rust = as-rust sequentialModel sequential-lawful sequential-in-rust (sequential-serializes Op Ret) sequential-serialized
+sequential-judge-as-rust = as-rust sequentialModel sequential-lawful sequential-in-rust (sequential-serializes Op Ret) sequential-as-rust
+    sequential-serialized
 
 pub linearizability-judge-as-rust : JudgesAsRust linearizabilityModel linearizability-in-rust (linearizable-serializes Op Ret)
-linearizability-judge-as-rust = as-rust linearizabilityModel linearizability-lawful linearizability-in-rust (linearizable-serializes Op Ret) linearizability-serialized
+linearizability-judge-as-rust = as-rust linearizabilityModel linearizability-lawful linearizability-in-rust (linearizable-serializes Op Ret)
+    linearizability-as-rust linearizability-serialized

@@ -29,7 +29,7 @@ use Rattle.recording_meaning.specs.Models.{Model, rows-of, sequentialModel, lin
 use Rattle.recording_meaning.specs.Lawful.{Lawful, sequential-lawful, linearizability-lawful}
 use Rattle.recording_meaning.specs.EventTurns.{good-of}
 use Rattle.recording_meaning.specs.Reaching.{good-new}
-use Rattle.recording_meaning.specs.Inputs.{broken, feed, taken}
+use Rattle.recording_meaning.specs.Inputs.{Inputs, broken, feed, taken}
 use Rattle.recording_meaning.specs.TesterFeeding.{fed-rows, invalid-exactly, len-operations}
 use Rattle.recording_meaning.specs.TestersAlike.{testers-alike}
 use Rattle.judging.specs.declared.answer.Answer.{Answer}
@@ -39,14 +39,14 @@ use Rattle.judging.specs.Answers.{Placement, withoutOrder, told, toldOf, judged
 use Rattle.judging_meaning.specs.Judging.{start-of, HasOrder, Sound}
 use Rattle.judging_meaning.specs.Judged.{judges, sequential-judges, linearizability-judges}
 use Rattle.judging_meaning.specs.JudgedFresh.{start-fed, fresh-sequential, fresh-linearizable}
-use Rattle.judging_meaning.specs.FurtherEvents.{taken-further, broken-further}
+use Rattle.judging_meaning.specs.FurtherInputs.{taken-further, broken-further}
 
 -- A fresh tester after the inputs l, whatever they are; and the verdict on it under the budget b.
 
-abbrev pub fed : (M : Model) → Object → Events families → M .Tester
+abbrev pub fed : (M : Model) → Object → Inputs → M .Tester
 fed M start l = feed M (M .new start) l
 
-abbrev pub verdict-fed : (M : Model) → Object → Events families → ℕ → Verdict
+abbrev pub verdict-fed : (M : Model) → Object → Inputs → ℕ → Verdict
 verdict-fed M start l b = judgeOf M (fed M start l) b .verdict
 
 -- Refused: by No order, or as Invalid.
@@ -77,11 +77,11 @@ larger-budget M s b c h = go (M .shaped s) (M .history s .valid)
         (λ u. n (ap (λ (v : Found Placement). told v (found b .attempts) .verdict) u)))
 
 -- inputs leave the object that the fresh tester starts from, the same in both models
-starts : (M : Model) → Lawful M → (start : Object) (l : Events families) → start-of M (fed M start l) ≡ holds (begunOf start .history .start)
+starts : (M : Model) → Lawful M → (start : Object) (l : Inputs) → start-of M (fed M start l) ≡ holds (begunOf start .history .start)
 starts M L start l = ap holds (start-fed M L l (M .new start) (good-new M L start) ∙ ap (λ (h : History). h .start) (L .begins start .0))
 
 -- where there is an order after further inputs, there was one before them
-order-before : (start : Object) (l k : Events families)
+order-before : (start : Object) (l k : Inputs)
     → HasOrder linearizabilityModel (fed linearizabilityModel start (l ++ k)) → HasOrder linearizabilityModel (fed linearizabilityModel start l)
 order-before start l k h =
     let M = linearizabilityModel in
@@ -93,7 +93,7 @@ order-before start l k h =
     (subst (λ (s : State). (p : Places families) × LegalOrder families later s p) (starts M L start (l ++ k) ∙ sym (starts M L start l)) h)
 
 -- A linearizability tester fed from fresh that is once refused, under any budget b, is never Order after any further inputs k, under any budget c.
-pub refused-stays-refused : (start : Object) (l k : Events families) (b c : ℕ)
+pub refused-stays-refused : (start : Object) (l k : Inputs) (b c : ℕ)
     → Refused (verdict-fed linearizabilityModel start l b) → verdict-fed linearizabilityModel start (l ++ k) c ≢ Order
 refused-stays-refused start l k b c r o =
     let w = linearizability-judges (fed linearizabilityModel start (l ++ k)) c .verdict-exactly Order .0 o in
@@ -107,7 +107,7 @@ refused-stays-refused start l k b c r o =
         (broken-further linearizabilityModel l k (linearizabilityModel .new start) (fresh-linearizable start l b .invalid-fed .0 e)))
 
 -- where the linearizability tester has an order, the sequential one has it too
-order-of-both : (start : Object) (l : Events families)
+order-of-both : (start : Object) (l : Inputs)
     → HasOrder linearizabilityModel (fed linearizabilityModel start l) → HasOrder sequentialModel (fed sequentialModel start l)
 order-of-both start l h =
     let s = fed sequentialModel start l in
@@ -118,7 +118,7 @@ order-of-both start l h =
     (order-alike families rows h))
 
 -- Inputs judged Order for linearizability, under any budget b, are never No order for sequential consistency, nor Invalid, under any budget c.
-pub linearizable-then-sequential : (start : Object) (l : Events families) (b c : ℕ) → verdict-fed linearizabilityModel start l b ≡ Order
+pub linearizable-then-sequential : (start : Object) (l : Inputs) (b c : ℕ) → verdict-fed linearizabilityModel start l b ≡ Order
     → (verdict-fed sequentialModel start l c ≢ NoOrder) × (verdict-fed sequentialModel start l c ≢ Invalid)
 linearizable-then-sequential start l b c o =
     let w = linearizability-judges (fed linearizabilityModel start l) b .verdict-exactly Order .0 o in (

@@ -99,7 +99,7 @@ pub found-none : (t : ℕ) (h : History) → findFlying t h ≡ Nothing → flie
 unfolding findFlying
 found-none t h e = subst (Finds t 0 (held h)) e (finds t 0 (held h))
 
-flies-mid : (t : ℕ) (o : Operation) (os ps : List Operation) → flyingBy t o ≡ true → flies t (os ++ (o ∷ ps)) ≡ true
+pub flies-mid : (t : ℕ) (o : Operation) (os ps : List Operation) → flyingBy t o ≡ true → flies t (os ++ (o ∷ ps)) ≡ true
 unfolding flies
 flies-mid t o [] ps e = rw e
 flies-mid t o (x ∷ os) ps e = rw (flies-mid t o os ps e) (or-true (flyingBy t x))

@@ -3,6 +3,7 @@ pub mod Reading
 pub mod Models
 pub mod Numbers
 pub mod Inputs
+pub mod InputLaws
 pub mod Meaning
 -- The Rust, transcribed, and what a tester is there.
 pub mod Rust
@@ -37,4 +38,5 @@ pub mod Marks
 pub mod Tables
 pub mod RustSteps
 pub mod RustAgrees
+pub mod Fitting
 pub mod RustFeeding

@@ -5,7 +5,6 @@ use mathlib.Core.Logic.{_≢_, _↔_}
 use mathlib.Core.Bool.{true, false}
 use mathlib.Core.List.{[]}
 use lib.ListN.{replicate}
-use Rattle.history.specs.Events.{Events}
 use Rattle.history.specs.Rows.{Rows, AllShaped, operations}
 use Rattle.history.specs.Recorder.{extend, close, new as put, Fed}
 use Rattle.values.specs.Sizes.{threads, capacity}
@@ -24,7 +23,7 @@ use Rattle.stepping.specs.Shape.{kindOf}
 use Rattle.stepping.specs.EventSteps.{numberOf, isTaken}
 use Rattle.recording_meaning.specs.Models.{Model, rows-of, Reached}
 use Rattle.recording_meaning.specs.Numbers.{InvokeWhen, ReturnWhen, MadeWhen}
-use Rattle.recording_meaning.specs.Inputs.{broke, broken, Own, invocations-in, feed, drawn, taken, Wellfed}
+use Rattle.recording_meaning.specs.Inputs.{Inputs, events-in, broke, broken, Own, invocations-in, feed, drawn, taken, Wellfed}
 
 module _ (M : Model) where
   -- What a call that answers r makes of a tester, where rows is what comes of its rows if the event is recorded.
@@ -85,13 +84,12 @@ module _ (M : Model) where
         → Leaves s (extend families (rows-of M s) t (put families (M .keep) (rows-of M s) t op)) (M .on-invoke s t op .0) (M .on-invoke s t op .1)
     pub return-rows : (s : M .Tester) → M .Lengths s → M .shaped s ≡ true → (t : ℕ) (ret : Ret)
         → Leaves s (close families (rows-of M s) t ret) (M .on-return s t ret .0) (M .on-return s t ret .1)
-    -- fed from fresh, whatever the inputs: the rows are those of the events recorded
-    pub fed : (start : Object) (l : Events families) → Fed families (M .keep) threads (taken M (M .new start) l) (rows-of M (feed M (M .new start) l))
+    -- fed from fresh, whatever the inputs, of the three calls in any order: the rows are those of the events recorded
+    pub fed : (start : Object) (l : Inputs) → Fed families (M .keep) threads (taken M (M .new start) l) (rows-of M (feed M (M .new start) l))
     -- validity is off exactly if some input drew 4 or 5 at its turn
-    pub invalid-if : (start : Object) (l : Events families)
-        → M .history (feed M (M .new start) l) .valid ≡ false ↔ broken (drawn M (M .new start) l) ≡ true
+    pub invalid-if : (start : Object) (l : Inputs) → M .history (feed M (M .new start) l) .valid ≡ false ↔ broken (drawn M (M .new start) l) ≡ true
     -- len counts the invocations recorded
-    pub len-fed : (start : Object) (l : Events families) → M .len (feed M (M .new start) l) ≡ invocations-in (taken M (M .new start) l)
-    -- events that history's recorder can be fed, of the object's own and at most 64 of them invocations, are all recorded and leave its rows
-    pub all-recorded : (start : Object) (H : Events families) (rows : Rows families) → Own (kindOf (M .history (M .new start))) H
-        → invocations-in H ≤ capacity → Fed families (M .keep) threads H rows → Wellfed M (M .new start) H rows
+    pub len-fed : (start : Object) (l : Inputs) → M .len (feed M (M .new start) l) ≡ invocations-in (taken M (M .new start) l)
+    -- inputs whose events history's recorder can be fed, of the object's own and at most 64 of them invocations, are all recorded and leave its rows
+    pub all-recorded : (start : Object) (l : Inputs) (rows : Rows families) → Own (kindOf (M .history (M .new start))) (events-in l)
+        → invocations-in (events-in l) ≤ capacity → Fed families (M .keep) threads (events-in l) rows → Wellfed M (M .new start) l rows

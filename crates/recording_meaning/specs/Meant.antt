@@ -4,7 +4,6 @@ use mathlib.Core.Path.{_≡_, refl, sym, ap, _∙_, subst}
 use mathlib.Core.Logic.{_↔_}
 use mathlib.Core.Bool.{false}
 use Rattle.history.specs.Lists.{not-both}
-use Rattle.history.specs.Events.{Events}
 use Rattle.history.specs.Rows.{Rows, operations}
 use Rattle.history.specs.Notes.{Tells, fed-tells}
 use Rattle.history.specs.Recorder.{extend, close, new as put}
@@ -51,7 +50,7 @@ use Rattle.recording_meaning.specs.EventTurns.{
 use Rattle.recording_meaning.specs.Reaching.{good-new, reached-good, reached-shaped}
 use Rattle.recording_meaning.specs.Numbers.{MadeWhen}
 use Rattle.recording_meaning.specs.NumbersExactly.{invoke-exactly, return-exactly, made-exactly}
-use Rattle.recording_meaning.specs.Inputs.{feed, taken}
+use Rattle.recording_meaning.specs.Inputs.{Inputs, feed, taken}
 use Rattle.recording_meaning.specs.TesterFeeding.{new-rows, new-valid, fed-rows, invalid-exactly, len-operations, len-invocations}
 use Rattle.recording_meaning.specs.Wellfed.{fed-history}
 use Rattle.recording_meaning.specs.Nines.{no-nine-invoke, no-nine-return, no-nine-invret, nine-invoke, nine-return, nine-invret}
@@ -143,6 +142,6 @@ linearizability-in-shape {s} w =
     tester-exactly s (reached-good linearizabilityModel linearizability-lawful w .sized) .1 (linearizability-meaning .in-shape w)
 
 -- For the linearizability tester, the notes say exactly what the recorded events say of time.
-pub notes-tell : (start : Object) (l : Events families) → (let s = linearizabilityModel .new start in
+pub notes-tell : (start : Object) (l : Inputs) → (let s = linearizabilityModel .new start in
     Tells families (taken linearizabilityModel s l) (rows-of linearizabilityModel (feed linearizabilityModel s l)))
 notes-tell start l = fed-tells families (fed-rows linearizabilityModel linearizability-lawful start l)

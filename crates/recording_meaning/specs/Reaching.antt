@@ -101,17 +101,19 @@ module _ (M : Model) where
           judge (barred e z) w = same _
           judge (passed a) w = run a w
 
+    pub good-invret : (s : M .Tester) → Good M L s → (t : ℕ) (op : Op) (ret : Ret) → Good M L (M .on-invret s t op ret .1)
+    good-invret s g t op ret =
+        subst (λ (a : Recorded × M .Tester). Good M L (a .1)) (sym (L .invrets s t op ret)) (go (isTaken (M .on-invoke s t op .0)) (good-invoke s g t op))
+      where
+        go : (b : Bool) → Good M L (M .on-invoke s t op .1) → Good M L (pick b (M .on-return (M .on-invoke s t op .1) t ret) (M .on-invoke s t op) .1)
+        go true h = good-return (M .on-invoke s t op .1) h t ret
+        go false h = h
+
     pub reached-good : {s : M .Tester} → Reached M s → Good M L s
     reached-good (made start) = good-new start
     reached-good (invoked {s = s} t op w) = good-invoke s (reached-good w) t op
     reached-good (returned {s = s} t ret w) = good-return s (reached-good w) t ret
-    reached-good (invretted {s = s} t op ret w) =
-        subst (λ (a : Recorded × M .Tester). Good M L (a .1)) (sym (L .invrets s t op ret))
-        (go (isTaken (M .on-invoke s t op .0)) (good-invoke s (reached-good w) t op))
-      where
-        go : (b : Bool) → Good M L (M .on-invoke s t op .1) → Good M L (pick b (M .on-return (M .on-invoke s t op .1) t ret) (M .on-invoke s t op) .1)
-        go true g = good-return (M .on-invoke s t op .1) g t ret
-        go false g = g
+    reached-good (invretted {s = s} t op ret w) = good-invret s (reached-good w) t op ret
 
     -- Every tester that constructors and calls make is in shape.
     pub reached-shaped : {s : M .Tester} → Reached M s → M .shaped s ≡ true

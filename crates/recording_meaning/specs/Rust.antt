@@ -1,5 +1,5 @@
--- The recording halves of the Rust, transcribed on lists: stateright 0.31.0, src/semantics/linearizability.rs and sequential_consistency.rs.
--- Definitions only. The texts of errors are left out; the entry that making one of them adds is not.
+-- The recording halves of the Rust, transcribed on lists: stateright 0.31.0, src/semantics/linearizability.rs, sequential_consistency.rs and, for
+-- on_invret, consistency_tester.rs. Definitions only. The texts of errors are left out; the entry that making one of them adds is not.
 use Prim.Native.Nat.{ℕ, _+_}
 use mathlib.Core.Bool.{Bool, true, false, cond}
 use mathlib.Core.Option.{Option, none, some}
@@ -152,6 +152,15 @@ module _ (Op Ret : Type 0) where
     abbrev pub on-return : Tester → ℕ → Ret → Answered
     on-return s t ret =
         cond (s .is-valid-history) (return-at (get (s .in-flight-by-thread) t) s t ret) (record { result = Err; tester = s })
+
+    -- on_invret: self.on_invoke(..)?.on_return(..), where `?` hands an Err on
+
+    abbrev pub on-return-if : Result → Tester → ℕ → Ret → Answered
+    on-return-if Ok s t ret = on-return s t ret
+    on-return-if Err s t ret = record { result = Err; tester = s }
+
+    abbrev pub on-invret : Tester → ℕ → Op → Ret → Answered
+    on-invret s t op ret = on-return-if (on-invoke s t op .result) (on-invoke s t op .tester) t ret
 
     -- len
     abbrev pub len : Tester → ℕ

@@ -1,25 +1,34 @@
 -- Recording equals the Rust: after each call that the Rust knows, the tester reads as the Rust's tester after it, with the same Ok or Err and len.
 use Prim.Native.Nat.{ℕ, _<_}
 use mathlib.Core.Path.{_≡_, refl, sym, ap, _∙_, subst}
-use mathlib.Core.Bool.{Bool, true}
+use mathlib.Core.Bool.{Bool, true, false}
+use mathlib.Core.List.{[]}
 use lib.ListN.{length}
+use borrow.Author.Tests.{eq-eqb}
 use native.Mathlib.Omega.{arith}
 use Rattle.history.specs.Lists.{not-both}
 use Rattle.history.specs.Rows.{Rows, row, Shaped}
 use Rattle.values.specs.Sizes.{threads}
+use Rattle.values.specs.Value.{pick}
 use Rattle.families.specs.Families.{families}
 use Rattle.families.specs.declared.Object.{Object}
 use Rattle.families.specs.declared.Op.{Op}
 use Rattle.families.specs.declared.Ret.{Ret}
 use Rattle.stepping.specs.declared.history.History.{History}
+use Rattle.families.specs.declared.placing.Outcome.the-variants.{Pending}
 use Rattle.stepping.specs.declared.recorded.Recorded.{Recorded}
-use Rattle.recording_meaning.specs.Rust.{Map, linearizable, Tester, Ok, Err, with-entry, on-invoke, on-return}
+use Rattle.stepping.specs.declared.recorded.Recorded.the-variants.{Taken, Refused}
+use Rattle.stepping.specs.Record.{operation, held, isPending, flyingBy}
+use Rattle.stepping.specs.EventSteps.{isTaken}
+use Rattle.recording_meaning.specs.Rust.{Map, linearizable, Tester, Answered, Result, Ok, Err, with-entry, on-invoke, on-return, on-return-if, on-invret}
 use Rattle.recording_meaning.specs.RustMaps.{tabled, with-notes, history-entry, in-maps}
 use Rattle.recording_meaning.specs.RustSteps.{last-noted, invokes-busy, returns-idle, returns-closes, invokes-extends}
-use Rattle.recording_meaning.specs.Rowing.{rows-many}
+use Rattle.recording_meaning.specs.Held.{flies, flies-mid, held-extended}
+use Rattle.recording_meaning.specs.Rowing.{rows-many, flying-row}
 use Rattle.recording_meaning.specs.Shaping.{rows-shaped}
 use Rattle.recording_meaning.specs.Cases.{invalid, stranger, foreign}
 use Rattle.recording_meaning.specs.Models.{Model, rows-of, sequentialModel, linearizabilityModel}
+use Rattle.recording_meaning.specs.Numbers.{Busy}
 use Rattle.recording_meaning.specs.Lawful.{Lawful}
 use Rattle.recording_meaning.specs.EventTurns.{
   Good,
@@ -35,6 +44,7 @@ use Rattle.recording_meaning.specs.EventTurns.{
   invoke-turn,
   return-turn,
 }
+use Rattle.recording_meaning.specs.Reaching.{good-invoke}
 use Rattle.recording_meaning.specs.RustReading.{
   InRust,
   sequential-in-rust,
@@ -121,3 +131,67 @@ module _ (M : Model) (L : Lawful M) (R : InRust M) (along : TakesAlong M R) wher
             ap (λ (x : RustTester M R). on-return Op Ret Object (R .keeps) x t ret) (same-maps M R s s refl refl (a .valid))
             ∙ returns-closes families (R .keeps) (R .flight) (M .history s .start) (rows-of M s) t (in-rows (a .known)) ret shaped b
             ∙ ap (answered M R Ok) (sym (same-maps M R s next (ap (λ (x : History). x .start) h) w (ap (λ (x : History). x .valid) h ∙ a .valid)))
+
+  module _ (s : M .Tester) (g : Good M L s) (t : ℕ) (op : Op) (ret : Ret) where
+    abbrev began : Recorded × M .Tester
+    began = M .on-invoke s t op
+
+    abbrev ended : Recorded × M .Tester
+    ended = M .on-return (began .1) t ret
+
+    -- after an invocation that is taken its thread has one in flight
+    now-busy : {r : Recorded} {next : M .Tester} → isTaken r ≡ true → InvokeTurn M s t op r next → Busy M next t ≡ true
+    unfolding isTaken flyingBy isPending
+    now-busy e (invoke-refused w) = not-both e refl
+    now-busy e (second a b h w) = not-both e refl
+    now-busy e (no-room a b k) = not-both e refl
+    now-busy e (invoke-taken {next = next} a b k h w) =
+        flying-row (M .needs next) (M .history next) t (a .known)
+        ∙ ap (λ (x : History). flies t (held x)) h
+        ∙ ap (flies t) (held-extended (M .history s) t op (g .sized) k)
+        ∙ flies-mid t (operation t op Pending) (held (M .history s)) [] (rw (eq-eqb t t refl))
+
+    -- so that its return leaves no stray entry
+    no-stray : {r : Recorded} {next : M .Tester} {T : RustTester M R} → Busy M (began .1) t ≡ true → ReturnTurn M (began .1) t ret r next
+        → left-by M R r T t ≡ T
+    no-stray e (return-refused (invalid v)) = refl
+    no-stray e (return-refused (stranger v k)) = refl
+    no-stray e (return-refused (foreign v k f)) = refl
+    no-stray e (stray a b h w) = not-both e b
+    no-stray e (return-taken i a b h w) = refl
+
+    is-ok : (r : Recorded) → isTaken r ≡ true → (comparable r ≡ true) × (result-of r ≡ Ok)
+    unfolding isTaken
+    is-ok Taken e = (refl, refl)
+    is-ok (Refused r) e = not-both e refl
+
+    is-err : (r : Recorded) → isTaken r ≡ false → result-of r ≡ Err
+    unfolding isTaken
+    is-err Taken e = not-both refl e
+    is-err (Refused r) e = refl
+
+    -- on_invret: the two in turn.
+    pub invret-as-rust : comparable (M .on-invret s t op ret .0) ≡ true → on-invret Op Ret Object (R .keeps) (in-rust M R s) t op ret
+        ≡ answered M R (result-of (M .on-invret s t op ret .0)) (in-rust M R (M .on-invret s t op ret .1))
+    invret-as-rust =
+        subst (λ (a : Recorded × M .Tester). comparable (a .0) ≡ true → on-invret Op Ret Object (R .keeps) (in-rust M R s) t op ret
+        ≡ answered M R (result-of (a .0)) (in-rust M R (a .1))) (sym (L .invrets s t op ret)) (go (isTaken (began .0)) refl)
+      where
+        -- what the invocation came to
+        begins : comparable (began .0) ≡ true → on-invret Op Ret Object (R .keeps) (in-rust M R s) t op ret
+            ≡ on-return-if Op Ret Object (R .keeps) (result-of (began .0)) (in-rust M R (began .1)) t ret
+        begins c =
+            ap (λ (a : Answered Op Ret Object (R .keeps)). on-return-if Op Ret Object (R .keeps) (a .result) (a .tester) t ret) (invoke-as-rust s g t op c)
+
+        go : (b : Bool) → isTaken (began .0) ≡ b → (let a = pick b ended began in
+            comparable (a .0) ≡ true → on-invret Op Ret Object (R .keeps) (in-rust M R s) t op ret ≡ answered M R (result-of (a .0)) (in-rust M R (a .1)))
+        go true e c =
+            begins (is-ok (began .0) e .0)
+            ∙ ap (λ (x : Result). on-return-if Op Ret Object (R .keeps) x (in-rust M R (began .1)) t ret) (is-ok (began .0) e .1)
+            ∙ return-as-rust (began .1) (good-invoke M L s g t op) t ret c
+            ∙ ap (answered M R (result-of (ended .0)))
+            (no-stray (now-busy e (invoke-turn M L s g t op)) (return-turn M L (began .1) (good-invoke M L s g t op) t ret))
+        go false e c =
+            begins c
+            ∙ ap (λ (x : Result). on-return-if Op Ret Object (R .keeps) x (in-rust M R (began .1)) t ret) (is-err (began .0) e)
+            ∙ ap (λ (x : Result). answered M R x (in-rust M R (began .1))) (sym (is-err (began .0) e))

@@ -1,27 +1,25 @@
 -- Recording is the Rust's along any inputs that it knows.
-use Prim.Native.Nat.{ℕ, _+_, _<_, _≤_}
+use Prim.Native.Nat.{ℕ, _+_}
 use mathlib.Core.Path.{_≡_, refl, sym, ap, _∙_, subst}
-use mathlib.Core.Bool.{Bool, true, false, cond}
+use mathlib.Core.Bool.{true, false}
 use mathlib.Core.List.{[], _∷_, map}
 use lib.ListN.{length}
 use native.Mathlib.Omega.{arith}
-use Rattle.history.specs.Lists.{not-both, and-left, and-right, and-both}
-use Rattle.history.specs.Events.{Event, Events, invoked, returned, ThreadsBelow}
-use Rattle.values.specs.Sizes.{threads, capacity}
+use Rattle.history.specs.Lists.{not-both, and-left, and-right}
+use Rattle.values.specs.Value.{pick}
 use Rattle.families.specs.Families.{families}
 use Rattle.families.specs.declared.Kind.{Kind}
 use Rattle.families.specs.declared.Object.{Object}
 use Rattle.families.specs.declared.Op.{Op}
 use Rattle.families.specs.declared.Ret.{Ret}
 use Rattle.values.specs.declared.refusal.Check.{Check}
-use Rattle.values.specs.declared.refusal.Check.the-variants.{Clear}
 use Rattle.stepping.specs.declared.history.History.{History}
 use Rattle.stepping.specs.declared.recorded.Made.the-variants.{New}
 use Rattle.stepping.specs.declared.recorded.Recorded.{Recorded}
 use Rattle.stepping.specs.declared.recorded.Recorded.the-variants.{Refused}
 use Rattle.stepping.specs.declared.recorded.Reason.{Reason}
 use Rattle.stepping.specs.declared.recorded.Reason.the-variants.{AlreadyInvalid}
-use Rattle.recording_meaning.specs.Rust.{Answered, Err, new, with-entry, on-invoke, on-return, len}
+use Rattle.recording_meaning.specs.Rust.{Answered, Err, new, with-entry, len}
 use Rattle.recording_meaning.specs.RustMaps.{tabled, flight-entry}
 use Rattle.recording_meaning.specs.RustSteps.{len-operations as maps-len, stray-lengths}
 use Rattle.stepping.specs.Shape.{kindOf}
@@ -30,7 +28,6 @@ use Rattle.recording_meaning.specs.Rowing.{rows-many}
 use Rattle.recording_meaning.specs.Shaping.{rows-shaped}
 use Rattle.recording_meaning.specs.Cases.{Barred, invalid, stranger, foreign}
 use Rattle.recording_meaning.specs.Models.{Model, rows-of, sequentialModel, linearizabilityModel}
-use Rattle.recording_meaning.specs.Numbers.{opSaid, retSaid}
 use Rattle.recording_meaning.specs.Lawful.{Lawful, sequential-lawful, linearizability-lawful}
 use Rattle.recording_meaning.specs.EventTurns.{
   Good,
@@ -48,8 +45,8 @@ use Rattle.recording_meaning.specs.EventTurns.{
   return-turn,
 }
 use Rattle.recording_meaning.specs.Reaching.{good-new}
-use Rattle.recording_meaning.specs.Inputs.{Own, invocations-in, give, feed, drawn}
-use Rattle.recording_meaning.specs.TesterFeeding.{step-of, good-give, good-feed, len-operations, new-count}
+use Rattle.recording_meaning.specs.Inputs.{Input, invoke, return, invret, Inputs, events-in, Own, give, feed, drawn}
+use Rattle.recording_meaning.specs.TesterFeeding.{good-give, good-feed, len-operations, new-count}
 use Rattle.recording_meaning.specs.Meant.{meaning}
 use Rattle.recording_meaning.specs.RustReading.{
   InRust,
@@ -72,7 +69,8 @@ use Rattle.recording_meaning.specs.RustReading.{
   sequential-in-rust,
   linearizability-in-rust,
 }
-use Rattle.recording_meaning.specs.RustAgrees.{TakesAlong, sequential-takes, linearizability-takes, same-maps, invoke-as-rust, return-as-rust}
+use Rattle.recording_meaning.specs.Fitting.{all-fit}
+use Rattle.recording_meaning.specs.RustAgrees.{TakesAlong, sequential-takes, linearizability-takes, same-maps, invoke-as-rust, return-as-rust, invret-as-rust}
 
 module _ (M : Model) (R : InRust M) where
   -- The Rust's answer a agrees with number r and the tester after it.
@@ -83,9 +81,10 @@ module _ (M : Model) (R : InRust M) where
 module _ (M : Model) (L : Lawful M) (R : InRust M) (along : TakesAlong M R) where
   -- once validity is off
 
-  rust-off : (T : RustTester M R) (v : Event families) → T .is-valid-history ≡ false → rust-give M R T v ≡ answered M R Err T
-  rust-off T (invoked t op) e = rw e
-  rust-off T (returned t ret) e = rw e
+  rust-off : (T : RustTester M R) (v : Input) → T .is-valid-history ≡ false → rust-give M R T v ≡ answered M R Err T
+  rust-off T (invoke t op) e = rw e
+  rust-off T (return t ret) e = rw e
+  rust-off T (invret t op ret) e = rw e
 
   off-barred : {h : History} {t : ℕ} {said : Check} {r : Reason} → h .valid ≡ false → Barred h t said r → Refused r ≡ Refused AlreadyInvalid
   off-barred e (invalid v) = refl
@@ -105,9 +104,15 @@ module _ (M : Model) (L : Lawful M) (R : InRust M) (along : TakesAlong M R) wher
   off-return e (stray a b h w) = not-both (a .valid) e
   off-return e (return-taken i a b h w) = not-both (a .valid) e
 
-  off-give : (s : M .Tester) → Good M L s → (v : Event families) → M .history s .valid ≡ false → (give M s v .0 ≡ Refused AlreadyInvalid) × (give M s v .1 ≡ s)
-  off-give s g (invoked t op) e = off-invoke e (invoke-turn M L s g t op)
-  off-give s g (returned t ret) e = off-return e (return-turn M L s g t ret)
+  off-give : (s : M .Tester) → Good M L s → (v : Input) → M .history s .valid ≡ false → (give M s v .0 ≡ Refused AlreadyInvalid) × (give M s v .1 ≡ s)
+  unfolding isTaken
+  off-give s g (invoke t op) e = off-invoke e (invoke-turn M L s g t op)
+  off-give s g (return t ret) e = off-return e (return-turn M L s g t ret)
+  off-give s g (invret t op ret) e =
+      let o = off-invoke e (invoke-turn M L s g t op) in
+      let w : M .on-invret s t op ret ≡ M .on-invoke s t op
+      = L .invrets s t op ret ∙ ap (λ (r : Recorded). pick (isTaken r) (M .on-return (M .on-invoke s t op .1) t ret) (M .on-invoke s t op)) (o .0) in
+      (ap (λ (a : Recorded × M .Tester). a .0) w ∙ o .0, ap (λ (a : Recorded × M .Tester). a .1) w ∙ o .1)
 
   -- what a return leaves stands for the tester after it
   left-stands : {s next : M .Tester} {t : ℕ} {ret : Ret} {r : Recorded} → ReturnTurn M s t ret r next → StandsFor M R next (left-by M R r (in-rust M R next) t)
@@ -118,14 +123,17 @@ module _ (M : Model) (L : Lawful M) (R : InRust M) (along : TakesAlong M R) wher
   left-stands (return-taken i a b h w) = exactly
 
   -- One input: the same answer, and the Rust's tester goes on standing for the tester.
-  agrees : (s : M .Tester) {T : RustTester M R} → Good M L s → StandsFor M R s T → (v : Event families) → comparable (give M s v .0) ≡ true
+  agrees : (s : M .Tester) {T : RustTester M R} → Good M L s → StandsFor M R s T → (v : Input) → comparable (give M s v .0) ≡ true
       → Agrees M R (give M s v .0) (give M s v .1) (rust-give M R T v)
-  agrees s g exactly (invoked t op) c =
+  agrees s g exactly (invoke t op) c =
       subst (Agrees M R (M .on-invoke s t op .0) (M .on-invoke s t op .1)) (sym (invoke-as-rust M L R along s g t op c))
       (record { result = refl; stands = exactly })
-  agrees s g exactly (returned t ret) c =
+  agrees s g exactly (return t ret) c =
       subst (Agrees M R (M .on-return s t ret .0) (M .on-return s t ret .1)) (sym (return-as-rust M L R along s g t ret c))
       (record { result = refl; stands = left-stands (return-turn M L s g t ret) })
+  agrees s g exactly (invret t op ret) c =
+      subst (Agrees M R (M .on-invret s t op ret .0) (M .on-invret s t op ret .1)) (sym (invret-as-rust M L R along s g t op ret c))
+      (record { result = refl; stands = exactly })
   agrees s g (strayed u l b) v c =
       let T = with-entry Op Ret Object (R .keeps) (in-rust M R s) u in
       let o = off-give s g v b in
@@ -149,7 +157,7 @@ module _ (M : Model) (L : Lawful M) (R : InRust M) (along : TakesAlong M R) wher
 
   -- along the inputs
 
-  run-agrees : (l : Events families) (s : M .Tester) {T : RustTester M R} → Good M L s → StandsFor M R s T → all-comparable (drawn M s l) ≡ true
+  run-agrees : (l : Inputs) (s : M .Tester) {T : RustTester M R} → Good M L s → StandsFor M R s T → all-comparable (drawn M s l) ≡ true
       → (rust-drawn M R T l ≡ map result-of (drawn M s l)) × StandsFor M R (feed M s l) (rust-feed M R T l)
   run-agrees [] s g w c = (refl, w)
   run-agrees (v ∷ l) s g w c =
@@ -166,7 +174,7 @@ module _ (M : Model) (L : Lawful M) (R : InRust M) (along : TakesAlong M R) wher
       (same-maps M R (M .new start) (M .new start) refl (w .no-rows) (w .valid) ∙ ap (new Op Ret Object (R .keeps)) (w .starts)) exactly
 
   -- From fresh, for all inputs that draw 0, 1, 4 and 5.
-  same-as-rust : (start : Object) → M .made start ≡ New → (l : Events families) → all-comparable (drawn M (M .new start) l) ≡ true → SameAsRust M R start l
+  same-as-rust : (start : Object) → M .made start ≡ New → (l : Inputs) → all-comparable (drawn M (M .new start) l) ≡ true → SameAsRust M R start l
   same-as-rust start e l c =
       let g = good-new M L start in
       let w = run-agrees l (M .new start) g (new-stands start e) c in
@@ -177,59 +185,19 @@ module _ (M : Model) (L : Lawful M) (R : InRust M) (along : TakesAlong M R) wher
   valid-exactly s v exactly = refl
   valid-exactly s v (strayed t l b) = not-both v b
 
-  -- inputs within document 01's sizes, of the object's own, draw nothing else
-
-  fits-barred : {h : History} {t : ℕ} {said : Check} {r : Reason} → t < threads → said ≡ Clear → Barred h t said r → comparable (Refused r) ≡ true
-  fits-barred k f (invalid v) = refl
-  fits-barred k f (stranger v m) = absurd (omega arith)
-  fits-barred k f (foreign v m d) = absurd (let z : _≡_ {A = ℕ} 0 1 = cc in omega arith)
-
-  fits-invoke : {s next : M .Tester} {t : ℕ} {op : Op} {r : Recorded} → t < threads → opSaid M s op ≡ Clear → M .history s .count < capacity
-      → InvokeTurn M s t op r next → comparable r ≡ true
-  fits-invoke k f c (invoke-refused w) = fits-barred k f w
-  fits-invoke k f c (second a b h w) = refl
-  fits-invoke k f c (no-room a b m) = absurd (omega arith)
-  fits-invoke k f c (invoke-taken a b m h w) = refl
-
-  fits-return : {s next : M .Tester} {t : ℕ} {ret : Ret} {r : Recorded} → t < threads → retSaid M s ret ≡ Clear → ReturnTurn M s t ret r next
-      → comparable r ≡ true
-  fits-return k f (return-refused w) = fits-barred k f w
-  fits-return k f (stray a b h w) = refl
-  fits-return k f (return-taken i a b h w) = refl
-
-  fits : (v : Event families) (l : Events families) (s : M .Tester) → Good M L s → ThreadsBelow families threads (v ∷ l)
-      → Own (kindOf (M .history s)) (v ∷ l) → M .history s .count + invocations-in (v ∷ l) ≤ capacity → comparable (give M s v .0) ≡ true
-  fits (invoked t op) l s g k f c = fits-invoke (k .0) (f .0) (omega arith) (invoke-turn M L s g t op)
-  fits (returned t ret) l s g k f c = fits-return (k .0) (f .0) (return-turn M L s g t ret)
-
-  rest-own : (k : Kind) (v : Event families) (l : Events families) → Own k (v ∷ l) → Own k l
-  rest-own k (invoked t op) l o = o .1
-  rest-own k (returned t ret) l o = o .1
-
-  first-and-rest : (b : Bool) (v : Event families) (l : Events families)
-      → cond b (invocations-in (v ∷ [])) 0 + invocations-in l ≤ invocations-in (v ∷ l)
-  first-and-rest true (invoked t op) l = omega arith
-  first-and-rest true (returned t ret) l = omega arith
-  first-and-rest false (invoked t op) l = omega arith
-  first-and-rest false (returned t ret) l = omega arith
-
-  all-fit : (l : Events families) (s : M .Tester) → Good M L s → ThreadsBelow families threads l → Own (kindOf (M .history s)) l
-      → M .history s .count + invocations-in l ≤ capacity → all-comparable (drawn M s l) ≡ true
-  all-fit [] s g k f c = refl
-  all-fit (v ∷ l) s g k f c =
-      let e = step-of M L s g v in
-      let same : kindOf (M .history (give M s v .1)) ≡ kindOf (M .history s) = ap (λ (o : Object). o .kind) (e .start) in
-      and-both (comparable (give M s v .0)) (all-comparable (drawn M (give M s v .1) l)) (fits v l s g k f c)
-      (all-fit l (give M s v .1) (good-give M L s g v) (k .1)
-      (subst (λ (k : Kind). Own k l) (sym same) (rest-own (kindOf (M .history s)) v l f))
-      (omega (arith, e .count, first-and-rest (isTaken (give M s v .0)) v l)))
+  -- the kind of the start that was given
+  new-kind : (start : Object) → M .made start ≡ New → kindOf (M .history (M .new start)) ≡ start .kind
+  new-kind start e = ap (λ (o : Object). o .kind) (meaning M L .new-leaves start New e .starts)
 
   pub as-rust : AsRust M R
   as-rust = record {
     invoke-as = λ s z e. invoke-as-rust M L R along s (good-of M L s z e);
     return-as = λ s z e. return-as-rust M L R along s (good-of M L s z e);
+    invret-as = λ s z e. invret-as-rust M L R along s (good-of M L s z e);
     run-as = same-as-rust;
-    in-sizes = λ start e l k f c. same-as-rust start e l (all-fit l (M .new start) (good-new M L start) k f (omega (arith, new-count M L start)));
+    in-sizes = λ start e l w.
+        same-as-rust start e l (all-fit M L l (M .new start) (good-new M L start) (w .known)
+        (subst (λ (k : Kind). Own k (events-in l)) (sym (new-kind start e)) (w .own)) (omega (arith, w .room, new-count M L start)));
     while-valid = λ s v w. valid-exactly s v w;
   }
 

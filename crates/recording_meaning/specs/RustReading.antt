@@ -1,11 +1,10 @@
 -- What a tester is in the Rust's maps, and when the two are compared: where the Rust knows the answer, numbers 0, 1, 4 and 5. It has no sizes and
 -- its types let in an object's own events only, so that 2, 3, 6 and 9 have no counterpart there.
-use Prim.Native.Nat.{ℕ, _<_, _≤_}
+use Prim.Native.Nat.{ℕ, _<_}
 use mathlib.Core.Path.{_≡_}
 use mathlib.Core.Bool.{Bool, true, false, _&&_}
 use mathlib.Core.List.{List, [], _∷_, map}
-use Rattle.history.specs.Events.{Event, Events, invoked, returned, ThreadsBelow}
-use Rattle.values.specs.Sizes.{threads, capacity}
+use Rattle.values.specs.Sizes.{threads}
 use Rattle.families.specs.Families.{families}
 use Rattle.families.specs.declared.Object.{Object}
 use Rattle.families.specs.declared.Op.{Op}
@@ -14,11 +13,10 @@ use Rattle.stepping.specs.declared.recorded.Made.the-variants.{New}
 use Rattle.stepping.specs.declared.recorded.Recorded.{Recorded}
 use Rattle.stepping.specs.declared.recorded.Recorded.the-variants.{Taken, Refused}
 use Rattle.stepping.specs.declared.recorded.Reason.the-variants.{AlreadyInvalid, NoSuchThread, NotOwn, InFlight, NothingInFlight, Full, OutOfShape}
-use Rattle.stepping.specs.Shape.{kindOf}
-use Rattle.recording_meaning.specs.Rust.{Keeps, Tester, Answered, Result, Ok, Err, new, with-entry, on-invoke, on-return, len, linearizable, sequential}
+use Rattle.recording_meaning.specs.Rust.{Keeps, Tester, Answered, Result, Ok, Err, new, with-entry, on-invoke, on-return, on-invret, len, linearizable, sequential}
 use Rattle.recording_meaning.specs.RustMaps.{with-notes, without-notes, in-maps}
 use Rattle.recording_meaning.specs.Models.{Model, rows-of, sequentialModel, linearizabilityModel}
-use Rattle.recording_meaning.specs.Inputs.{Own, invocations-in, feed, drawn}
+use Rattle.recording_meaning.specs.Inputs.{Input, invoke, return, invret, Inputs, events-in, InSizes, feed, drawn}
 
 -- What the Rust's tester of a model keeps of an operation with its notes.
 pub record InRust (M : Model) : Type 1 where
@@ -86,20 +84,21 @@ module _ (M : Model) (R : InRust M) where
 
   -- Feeding the Rust.
 
-  abbrev pub rust-give : RustTester → Event families → Answered Op Ret Object (R .keeps)
-  rust-give s (invoked t op) = on-invoke Op Ret Object (R .keeps) s t op
-  rust-give s (returned t ret) = on-return Op Ret Object (R .keeps) s t ret
+  abbrev pub rust-give : RustTester → Input → Answered Op Ret Object (R .keeps)
+  rust-give s (invoke t op) = on-invoke Op Ret Object (R .keeps) s t op
+  rust-give s (return t ret) = on-return Op Ret Object (R .keeps) s t ret
+  rust-give s (invret t op ret) = on-invret Op Ret Object (R .keeps) s t op ret
 
-  abbrev pub rust-feed : RustTester → Events families → RustTester
+  abbrev pub rust-feed : RustTester → Inputs → RustTester
   rust-feed s [] = s
   rust-feed s (v ∷ l) = rust-feed (rust-give s v .tester) l
 
-  abbrev pub rust-drawn : RustTester → Events families → List Result
+  abbrev pub rust-drawn : RustTester → Inputs → List Result
   rust-drawn s [] = []
   rust-drawn s (v ∷ l) = rust-give s v .result ∷ rust-drawn (rust-give s v .tester) l
 
   -- The Rust's new tester, fed the same inputs, answers the same, stands for the tester in the end, and has the same len.
-  pub record SameAsRust (start : Object) (l : Events families) : Type 0 where
+  pub record SameAsRust (start : Object) (l : Inputs) : Type 0 where
     pub results : rust-drawn (rust-new start) l ≡ map result-of (drawn M (M .new start) l)
     pub stands : StandsFor (feed M (M .new start) l) (rust-feed (rust-new start) l)
     pub lens : len Op Ret Object (R .keeps) (rust-feed (rust-new start) l) ≡ M .len (feed M (M .new start) l)
@@ -113,10 +112,13 @@ module _ (M : Model) (R : InRust M) where
     pub return-as : (s : M .Tester) → M .Lengths s → M .shaped s ≡ true → (t : ℕ) (ret : Ret) → comparable (M .on-return s t ret .0) ≡ true
         → on-return Op Ret Object (R .keeps) (in-rust s) t ret
         ≡ answered (result-of (M .on-return s t ret .0)) (left-by (M .on-return s t ret .0) (in-rust (M .on-return s t ret .1)) t)
+    -- on_invret, without one: after its invocation is taken, its return never draws 5
+    pub invret-as : (s : M .Tester) → M .Lengths s → M .shaped s ≡ true → (t : ℕ) (op : Op) (ret : Ret) → comparable (M .on-invret s t op ret .0) ≡ true
+        → on-invret Op Ret Object (R .keeps) (in-rust s) t op ret
+        ≡ answered (result-of (M .on-invret s t op ret .0)) (in-rust (M .on-invret s t op ret .1))
     -- from fresh, where the start draws 0, along inputs that draw nothing else
-    pub run-as : (start : Object) → M .made start ≡ New → (l : Events families) → all-comparable (drawn M (M .new start) l) ≡ true → SameAsRust start l
-    -- within document 01's sizes no input draws anything else: threads 0 to 7, the object's own events, at most 64 invocations
-    pub in-sizes : (start : Object) → M .made start ≡ New → (l : Events families) → ThreadsBelow families threads l → Own (kindOf (M .history (M .new start))) l
-        → invocations-in l ≤ capacity → SameAsRust start l
+    pub run-as : (start : Object) → M .made start ≡ New → (l : Inputs) → all-comparable (drawn M (M .new start) l) ≡ true → SameAsRust start l
+    -- within document 01's sizes no input draws anything else
+    pub in-sizes : (start : Object) → M .made start ≡ New → (l : Inputs) → InSizes (start .kind) (events-in l) → SameAsRust start l
     -- while the history is valid, there is no stray entry
     pub while-valid : (s : M .Tester) {T : RustTester} → M .history s .valid ≡ true → StandsFor s T → T ≡ in-rust s

@@ -21,17 +21,17 @@ use Rattle.objects.specs.declared.vec.VecOp.the-variants.{Push, Pop}
 use Rattle.objects.specs.declared.vec.VecRet.the-variants.{PushOk, PopOk}
 use Rattle.stepping.specs.EventSteps.{numberOf}
 use Rattle.recording_meaning.specs.Models.{Model, sequentialModel, linearizabilityModel}
-use Rattle.recording_meaning.specs.Inputs.{invocations-in, feed, drawn}
+use Rattle.recording_meaning.specs.Inputs.{invoke, Inputs, as-inputs, events-in, invocations-in, feed, drawn}
 use Rattle.judging.specs.declared.answer.Answer.{Answer}
 use Rattle.judging.specs.declared.answer.Placed.{Placed}
 use Rattle.judging.specs.declared.answer.Verdict.{Verdict}
 use Rattle.judging.specs.declared.answer.Verdict.the-variants.{Order, NoOrder, Undecided, Invalid}
 use Rattle.judging.specs.Answers.{placed, padded, judgeOf}
 
--- Events in time, fed to a fresh tester of an initial object; the number that each draws; and `len` after them.
+-- Inputs in time, fed to a fresh tester of an initial object; the number that each draws; and `len` after them.
 pub record Trace : Type 0 where
   pub start : Object
-  pub events : Events families
+  pub inputs : Inputs
   pub numbers : List ℕ
   pub len : ℕ
 
@@ -58,13 +58,13 @@ expected x = record {
   answer = record { verdict = x .verdict; attempts = x .attempts; length = length (x .order); order = padded (x .order) };
 }
 
--- What the meanings give: recording from fresh, event by event, and then the judge.
+-- What the meanings give: recording from fresh, input by input, and then the judge.
 abbrev pub found : Expectation → Outcome
 found x =
     let fresh = x .model .new (x .trace .start) in
-    let fed = feed (x .model) fresh (x .trace .events) in
+    let fed = feed (x .model) fresh (x .trace .inputs) in
     record {
-      numbers = map numberOf (drawn (x .model) fresh (x .trace .events));
+      numbers = map numberOf (drawn (x .model) fresh (x .trace .inputs));
       len = x .model .len fed;
       answer = judgeOf (x .model) fed (x .budget);
     }
@@ -113,7 +113,7 @@ register = newRegister (pos 65)
 
 -- Every event is recorded.
 abbrev recorded : Object → Events families → Trace
-recorded start l = record { start = start; events = l; numbers = replicate (length l) 0; len = invocations-in l }
+recorded start l = record { start = start; inputs = as-inputs l; numbers = replicate (length l) 0; len = invocations-in l }
 
 -- 1. Empty.
 abbrev trace-1 : Trace
@@ -145,7 +145,7 @@ trace-7 = recorded register (invoked 0 read ∷ returned 0 (read-ok 66) ∷ [])
 
 -- 7, second part. T1 then writes 66, done.
 abbrev trace-7-then : Trace
-trace-7-then = recorded register (trace-7 .events ++ (invoked 1 (write 66) ∷ returned 1 write-ok ∷ []))
+trace-7-then = recorded register (events-in (trace-7 .inputs) ++ (invoked 1 (write 66) ∷ returned 1 write-ok ∷ []))
 
 -- 8. Write-once from nothing, overlapping writes 5 and 6 by T0 and T1, both WriteOk.
 abbrev trace-8 : Trace
@@ -155,11 +155,11 @@ trace-8 = recorded (newOnce Nothing) (invoked 0 (once 5) ∷ invoked 1 (once 6) 
 abbrev trace-9 : Trace
 trace-9 = recorded (newStack zeros 0) (invoked 0 (push 1) ∷ invoked 1 pop ∷ returned 0 push-ok ∷ returned 1 pop-nothing ∷ [])
 
--- 10. T0 invokes Read, then Write(1): answer 4, `len` 1; any later event 1.
-abbrev pub trace-10 : Events families → Trace
+-- 10. T0 invokes Read, then Write(1): answer 4, `len` 1; any later event 1, by whichever call.
+abbrev pub trace-10 : Inputs → Trace
 trace-10 later = record {
   start = register;
-  events = invoked 0 read ∷ invoked 0 (write 1) ∷ later;
+  inputs = invoke 0 read ∷ invoke 0 (write 1) ∷ later;
   numbers = 0 ∷ 4 ∷ replicate (length later) 1;
   len = 1;
 }
@@ -184,8 +184,8 @@ linearizable e b v p n = expect linearizabilityModel e b v p n ∷ []
 abbrev both : Trace → ℕ → Verdict → List Placed → ℕ → List Expectation
 both e b v p n = sequential e b v p n ++ linearizable e b v p n
 
--- The list: what is expected of each trace by model and budget, whatever the later events of trace 10 are.
-abbrev pub traces : Events families → List Expectation
+-- The list: what is expected of each trace by model and budget, whatever the later inputs of trace 10 are.
+abbrev pub traces : Inputs → List Expectation
 traces later =
     both trace-1 0 Order [] 0
     ++ both trace-2 covers Order [] 0
