@@ -6,6 +6,7 @@ NAME = r"[^\s:(){}=]+"
 DECLARES = re.compile(rf"( *)((?:pub |abbrev |unfoldable )*)(data |record )?(?!let )({NAME}(?: {NAME})*?)((?: [({{].*[)}}])?) : (.*)")
 SECTION = re.compile(r"( *)module _(.*)where$")
 USES = re.compile(r"^use Rattle·([a-z_]+)(?:·specs)?\.specs\.([A-Z]\w*)\.\{([^}]*)\}", re.MULTILINE)
+BINDS = re.compile(r"[({]([^(){}:]+) :")
 NAMES = re.compile(r"(?<![^\s(){},;λ])[^\s(){},;.λ]+")
 
 
@@ -14,6 +15,7 @@ class Declaration:
     """A name that a file declares. A theorem's statement is its type; what a definition means is in its body too."""
 
     name: str
+    public: bool
     theorem: bool
     statement: str
     body: str
@@ -21,7 +23,8 @@ class Declaration:
 
     def mentions(self):
         text = self.statement if self.theorem else self.statement + "\n" + self.body
-        return set(NAMES.findall(text))
+        bound = {name for names in BINDS.findall(text) for name in names.split()}
+        return set(NAMES.findall(text)) - bound
 
 
 @dataclasses.dataclass
@@ -83,10 +86,10 @@ def read(path):
             fields = ()
         theorem = not form and "abbrev" not in words and "unfoldable" not in words
         for name in names.split(" "):
-            declarations[name] = Declaration(name, theorem, statement, body, fields)
+            declarations[name] = Declaration(name, "pub " in words, theorem, statement, body, fields)
         for name in fields:
             if form and name not in declarations:
-                declarations[name] = Declaration(name, True, "", "", ())
+                declarations[name] = Declaration(name, True, True, "", "", ())
     uses = {}
     for crate, module, names in USES.findall(text):
         for name in names.replace("\n", " ").split(","):
