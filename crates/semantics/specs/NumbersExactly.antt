@@ -3,6 +3,7 @@ use Prim.Native.Nat.{ℕ}
 use mathlib.Core.Path.{_≡_, refl, sym, ap, ap₂, _∙_}
 use mathlib.Core.Bool.{Bool, true, false}
 use mathlib.Core.Logic.{_⊎_, inl, inr, ⊎-elim}
+use lib.Dec.{eqb}
 use native.Mathlib.Omega.{arith}
 use Rattle.values.specs.Value.{pick}
 use Rattle.values.specs.Checks.{numberOf, inOrder}
@@ -15,7 +16,7 @@ use Rattle.families.specs.declared.Object.{Object}
 use Rattle.families.specs.declared.Op.{Op}
 use Rattle.families.specs.declared.Ret.{Ret}
 use Rattle.values.specs.declared.refusal.Refusal.{Refusal}
-use Rattle.values.specs.declared.refusal.Refusal.the-variants.{OtherFamily, NoRoom, OutOfShape}
+use Rattle.values.specs.declared.refusal.Refusal.the-variants.{OtherFamily, NoRoom, StartTooDeep, OutOfShape}
 use Rattle.values.specs.declared.refusal.Check.{Check}
 use Rattle.values.specs.declared.refusal.Check.the-variants.{Clear, Refused}
 use Rattle.semantics.specs.Calls.{invokeCheck, stepCheck, rightBy, leftBy, invokeBy, invokeOf, stepped, stepBy, stepOf}
@@ -61,6 +62,23 @@ module _ (deep other full : Type 0) where
     none = (λ e. (s, o, f), λ x. refl);
     only = inr (inr (inr refl));
   }
+
+-- a number says which refusal it is of
+
+refusalAt : ℕ → Refusal
+refusalAt n = pick (eqb n 3) OtherFamily (pick (eqb n 7) NoRoom (pick (eqb n 8) StartTooDeep OutOfShape))
+
+refusal-at : (r : Refusal) → refusalAt (numberOf r) ≡ r
+unfolding refusalAt numberOf
+refusal-at OtherFamily = refl
+refusal-at NoRoom = refl
+refusal-at StartTooDeep = refl
+refusal-at OutOfShape = refl
+
+pub number-tells : (s : Said) (r : Refusal) → saidNumber s ≡ numberOf r → s ≡ SRefused r
+number-tells Yes r e = absurd (not-event r .0 (sym e))
+number-tells No r e = absurd (not-event r .0 (sym e))
+number-tells (SRefused q) r e = ap SRefused (sym (refusal-at q) ∙ ap refusalAt e ∙ refusal-at r)
 
 pub not-eight : {n : ℕ} {deep other full : Type 0} → Numbered n deep other full → n ≡ 8 → ⊥
 not-eight {n = n} w e = go (w .only)
