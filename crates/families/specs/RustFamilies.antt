@@ -16,9 +16,10 @@ use Rattle.objects.specs.Stack.{first, stackAfter, pops, heldValues}
 use Rattle.families.specs.Family.{Family, registers, write-onces, stacks, familyOf, opFamily, retFamily, familyNumber}
 use Rattle.families.specs.Codes.{retCoded}
 use Rattle.families.specs.Families.{State, valueOf, listed, answers, after, sameRet, right}
+use Rattle.families.specs.Objects.{newRegister, newOnce, newStack, standIn}
 use Rattle.families.specs.Placing.{takes, taken, leavesWrong}
 use Rattle.families.specs.States.{stateOf, first-listed}
-use Rattle.families.specs.RustObjects.{RefObj, Register, WORegister, Vec, invoke, is-valid-step, from-bottom, ref-obj-of}
+use Rattle.families.specs.RustObjects.{RefObj, Register, WORegister, Vec, invoke, is-valid-step, default-of, from-bottom, ref-obj-of, ref-obj}
 use Rattle.values.specs.declared.value.Maybe.{Maybe}
 use Rattle.objects.specs.declared.register.RegisterOp.the-variants.{Write, Read}
 use Rattle.objects.specs.declared.write_once_register.WORegisterRet.{WORegisterRet}
@@ -89,6 +90,13 @@ unfolding holding familyOf stateOf
 object-same (KRegister v) items = refl
 object-same (KWORegister m) items = ap WORegister (sym (first-listed m))
 object-same (KVec d) items = ap Vec (bottom-first items d)
+
+-- What stands in for a start that is refused is the Rust's default of its family.
+pub default-same : (k : Kind) → ref-obj (standIn k) ≡ default-of (familyOf k)
+unfolding standIn newRegister newOnce newStack familyOf
+default-same (KRegister v) = refl
+default-same (KWORegister m) = refl
+default-same (KVec d) = refl
 
 -- A stack's values, the bottom first, are the first of its items.
 pub bottom-take : (items : List ℤ) (d : ℕ) → d ≤ length items → from-bottom items d ≡ take d items

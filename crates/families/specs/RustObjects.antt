@@ -22,6 +22,7 @@ use Rattle.objects.specs.declared.vec.VecOp.{VecOp}
 use Rattle.objects.specs.declared.vec.VecOp.the-variants.{Push, Pop, Len}
 use Rattle.objects.specs.declared.vec.VecRet.{VecRet}
 use Rattle.objects.specs.declared.vec.VecRet.the-variants.{PushOk, PopOk, LenOk}
+use Rattle.families.specs.Family.{Family, registers, write-onces, stacks}
 use Rattle.families.specs.Objects.{noRet}
 use Rattle.families.specs.declared.Kind.{Kind}
 use Rattle.families.specs.declared.Kind.the-variants.{Register as KRegister, WORegister as KWORegister, Vec as KVec}
@@ -162,6 +163,12 @@ pub data RefObj : Type 0 where
   Register : ℤ → RefObj
   WORegister : Maybe → RefObj
   Vec : List ℤ → RefObj
+
+-- Default, by family: Register<T> and WORegister<T> derive it, T::default() being 0 and Option<T>'s None; Vec's is Vec::new().
+abbrev pub default-of : Family → RefObj
+default-of registers = Register (pos 0)
+default-of write-onces = WORegister Nothing
+default-of stacks = Vec []
 
 -- The three as one. The Rust's types let in an operation or a return of the object's own family only; what stands for another's, none, does
 -- nothing: invoke has no return, and a step is not valid.
