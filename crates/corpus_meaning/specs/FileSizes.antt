@@ -24,9 +24,11 @@ use Rattle.numbers.specs.FileRefusals.{numberOf}
 use Rattle.numbers.specs.Reader.{Read, got, refused, from}
 use Rattle.format.specs.Format.{start, opening, sameBytes, opens, header}
 use Rattle.format.specs.SameBytes.{same-true}
+use Rattle.format.specs.Taking.{OfField}
+use Rattle.format.specs.Lengths.{event-built, start-built}
 use Rattle.corpus.specs.Load.{Load, loadOf}
 use Rattle.corpus.specs.Loaded.{Outcome, ended, unread, unrecorded, loaded, not-loaded}
-use Rattle.corpus_meaning.specs.FieldReasons.{OfField, from-fine, start-field, event-field}
+use Rattle.corpus_meaning.specs.FieldReasons.{from-fine, built-fine}
 
 -- The file opens with the four bytes.
 abbrev pub Opened : List ℕ → Type 0
@@ -104,14 +106,14 @@ module _ (M : Model) (s : List ℕ) where
     where
       by-outcome : (x : Object) (n : ℕ) → Outcome M (x .kind) (drop n s) n (M .new x) (loadOf M s) → (loadOf M s .number < 20) ⊎ (21 < loadOf M s .number)
       by-outcome x n (ended l m sp all q r) = inl (omega (arith, told r))
-      by-outcome x n (unread l m sp all i why q r) = inr (omega (arith, told r, file-number why (rw q at (event-field (x .kind) (drop m (drop n s))))))
+      by-outcome x n (unread l m sp all i why q r) = inr (omega (arith, told r, file-number why (rw q at (built-fine (event-built (x .kind)) (drop m (drop n s))))))
       by-outcome x n (unrecorded l m sp all i v used q d r) = inl (of-event _ _ (told r))
 
       by-header : (r : Read Object) → header s ≡ r → (loadOf M s .number < 20) ⊎ (21 < loadOf M s .number)
       by-header (got x n) e = by-outcome x n (loaded M s x n e)
       by-header (refused why) e =
           let f : from start s 4 ≡ refused why = sym (opened-header s h o) ∙ e in
-          inr (omega (arith, told (not-loaded M s why e), file-number why (rw f at (from-fine start start-field s 4))))
+          inr (omega (arith, told (not-loaded M s why e), file-number why (rw f at (from-fine start (built-fine start-built) s 4))))
 
   by-size : {P : Type 0} → (65536 < length s → P) → (length s ≤ 65536 → opens s ≡ false → P) → (length s ≤ 65536 → opens s ≡ true → P) → P
   by-size {P} long other opened = go (ltb 65536 (length s)) refl (opens s) refl

@@ -45,7 +45,7 @@ flagged-built : (n flag : ℕ) → Built 0 (flagged n flag)
 unfolding flagged
 flagged-built n flag =
     either 0 (eqb flag 0) (give (coded n 0 0)) _ (no-bytes (coded n 0 0))
-    (either 0 (eqb flag 1) (single n) (refuse Unknown) (fewer (single n) 1 (single-built n) 0 (omega arith)) (never Coded Unknown 0))
+    (either 0 (eqb flag 1) (single n) (refuse Unknown) (fewer (single n) 1 (single-built n) 0 (omega arith)) (never Coded Unknown 0 tt))
 
 maybe-built : (n : ℕ) → Built 1 (maybe n)
 unfolding maybe
@@ -54,7 +54,7 @@ maybe-built n = next-to 1 0 number (flagged n) one-number (flagged-built n)
 -- what follows the number of an operation or a return may be nothing
 payload-built : (n : ℕ) (f : Form) → Built 0 (payload n f)
 unfolding payload
-payload-built n NoForm = never Coded Unknown 0
+payload-built n NoForm = never Coded Unknown 0 tt
 payload-built n Bare = no-bytes (coded n 0 0)
 payload-built n Number = fewer (single n) 1 (single-built n) 0 (omega arith)
 payload-built n Flagged = fewer (maybe n) 1 (maybe-built n) 0 (omega arith)
@@ -99,14 +99,14 @@ values-built (suc count) i items =
 counted-built : (n count : ℕ) → Built 0 (counted n count)
 unfolding counted values
 counted-built n count =
-    either 0 (ltb startRoom count) (refuse StartTooDeep) _ (never Object StartTooDeep 0)
+    either 0 (ltb startRoom count) (refuse StartTooDeep) _ (never Object StartTooDeep 0 tt)
     (made-built 0 (valuesFrom count 0 zeros) (λ items. startFrom (coded n count 0) items) (values-built count 0 zeros))
 
 -- what follows the number of an object is a byte at least
 
 start-by : (n : ℕ) (f : StartForm) → Built 1 (startBy n f)
 unfolding startBy singleStart payload countedStart
-start-by n NoStart = never Object Unknown 1
+start-by n NoStart = never Object Unknown 1 tt
 start-by n StartNumber = made-built 1 (single n) (λ c. startFrom c zeros) (single-built n)
 start-by n StartFlagged = made-built 1 (maybe n) (λ c. startFrom c zeros) (maybe-built n)
 start-by n Values = next-to 1 0 number (counted n) one-number (counted-built n)

@@ -8,6 +8,7 @@ use lib.ListN.{length, drop, length-drop}
 use lib.Dec.{ltb}
 use Rattle.values.specs.Value.{pick}
 use Rattle.numbers.specs.declared.refusal.Refusal.{Refusal}
+use Rattle.numbers.specs.declared.refusal.Refusal.the-variants.{TooLong, Unopened, Cut, TooBig, Unknown, StartTooDeep}
 use Rattle.numbers.specs.Reader.{Read, got, refused, Reader, later, from, give, refuse, behind, _then_}
 use Rattle.numbers.specs.Number.{tooBig, groupBy, numberFrom, number}
 
@@ -86,11 +87,20 @@ pub number-field : Field 1 number
 unfolding number
 number-field s = takes-wider (numberFrom s 0 0) 1 (0 + length s) 1 (length s) (omega arith) (omega arith) (number-takes s 0 0)
 
--- A field that is put together from numbers, and the least number of bytes that it takes.
+-- Reasons that are not of the file as a whole, its length or its opening.
+abbrev pub OfField : Refusal → Type 0
+OfField TooLong = ⊥
+OfField Unopened = ⊥
+OfField Cut = Unit {0}
+OfField TooBig = Unit {0}
+OfField Unknown = Unit {0}
+OfField StartTooDeep = Unit {0}
+
+-- A field that is put together from numbers, and the least number of bytes that it takes; it is refused for a reason of its own.
 pub data BuiltOf : (A : Type 0) → ℕ → Reader A → Type 1 where
   one-number : BuiltOf ℕ 1 number
   no-bytes : {A : Type 0} (a : A) → BuiltOf A 0 (give a)
-  never : (A : Type 0) (why : Refusal) (n : ℕ) → BuiltOf A n (refuse why)
+  never : (A : Type 0) (why : Refusal) (n : ℕ) → OfField why → BuiltOf A n (refuse why)
   either : {A : Type 0} (n : ℕ) (b : Bool) (f g : Reader A) → BuiltOf A n f → BuiltOf A n g → BuiltOf A n (pick b f g)
   next-to : {A B : Type 0} (m n : ℕ) (f : Reader A) (g : A → Reader B) → BuiltOf A m f → ((a : A) → BuiltOf B n (g a)) → BuiltOf B (m + n) (f then g)
   fewer : {A : Type 0} (f : Reader A) (least : ℕ) → BuiltOf A least f → (n : ℕ) → n ≤ least → BuiltOf A n f
@@ -101,7 +111,7 @@ Built {A} n f = BuiltOf A n f
 pub built-field : {A : Type 0} {n : ℕ} {f : Reader A} → Built n f → Field n f
 built-field one-number = number-field
 built-field (no-bytes a) = give-field a
-built-field (never A why n) = refuse-field A why n
+built-field (never A why n h) = refuse-field A why n
 built-field (either n b f g F G) = pick-field n b f g (built-field F) (built-field G)
 built-field (next-to m n f g F G) = then-field m n f g (built-field F) (λ a. built-field (G a))
 built-field (fewer f least F n h) = fewer-field f least (built-field F) n h

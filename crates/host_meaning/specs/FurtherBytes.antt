@@ -59,7 +59,7 @@ pub built-stays : {A : Type 0} {n : ℕ} {f : Reader A} → BuiltOf A n f → St
 unfolding number give refuse
 built-stays one-number s more a used e = number-stays s more 0 0 a used e
 built-stays (no-bytes b) s more a used e = e
-built-stays (never A why n) s more a used e = cc
+built-stays (never A why n h) s more a used e = cc
 built-stays (either n true f g F G) s more a used e = built-stays F s more a used e
 built-stays (either n false f g F G) s more a used e = built-stays G s more a used e
 built-stays (next-to m n f g F G) s more a used e =
