@@ -1,7 +1,11 @@
 // The traces of document 01 for the bench wall, run, a line each to hold beside it. They stand in data/traces.txt, which
-// begins with what its lines say.
+// begins with what its lines say. Behind them stand the refusals that no trace draws: 3, 7, 8 and each cause of 9.
+mod bare;
 mod files;
+mod orders;
 mod script;
+mod seen;
+mod shapes;
 mod telling;
 mod trace;
 mod verdicts;
@@ -25,4 +29,6 @@ fn main() {
     let length = io::read_full(fd, &mut text);
     libc::close(fd);
     script::run(&text[..length]);
+    bare::run();
+    shapes::run();
 }
