@@ -1,4 +1,4 @@
--- Trace 13 of document 01, the order in which fields are judged, and the bytes of trace 14.
+-- Trace 13 of document 01, and the bytes of trace 14.
 use Prim.Native.Nat.{ℕ}
 use mathlib.Core.Path.{_≡_, refl}
 use mathlib.Core.List.{List, [], _∷_}
@@ -12,16 +12,15 @@ use Rattle.families.specs.Families.{families}
 use Rattle.objects.specs.Register.{registerOpForm, registerOpFrom, registerRetForm, registerRetFrom}
 use Rattle.families.specs.Codes.{opForm, opFrom, retForm, retFrom, startForm, startFrom}
 use Rattle.families.specs.Objects.{newRegister}
-use Rattle.values.specs.declared.coded.Form.the-variants.{Flagged}
 use Rattle.families.specs.declared.Op.the-variants.{Register as ORegister}
 use Rattle.families.specs.declared.Ret.the-variants.{Register as RRegister}
 use Rattle.objects.specs.declared.register.RegisterOp.the-variants.{Write, Read}
 use Rattle.objects.specs.declared.register.RegisterRet.the-variants.{WriteOk}
-use Rattle.numbers.specs.declared.refusal.Refusal.the-variants.{Cut, TooBig, Unknown, StartTooDeep}
+use Rattle.numbers.specs.declared.refusal.Refusal.the-variants.{TooBig}
 use Rattle.numbers.specs.FileRefusals.{numberOf}
-use Rattle.numbers.specs.Reader.{got, refused, from, give, refuse, _then_}
+use Rattle.numbers.specs.Reader.{got, refused, from, give, _then_}
 use Rattle.numbers.specs.Number.{tooBig, numberFrom, number}
-use Rattle.format.specs.Format.{value, single, flagged, maybe, payload, singleStart, counted, countedStart, startBy, object, start, sameBytes, opens, header, operationOf, answerOf, operation, answer, eventOf, event}
+use Rattle.format.specs.Format.{value, single, payload, singleStart, startBy, object, start, sameBytes, opens, header, operationOf, answerOf, operation, answer, eventOf, event}
 use Rattle.format.specs.Spelling.{Spells}
 
 -- 13. -1 is sent as 01, and -2147483648 as FF FF FF FF 0F; a fifth byte of 10 (hex) gives 23, whatever follows.
@@ -41,25 +40,6 @@ fifth-byte rest = refl
 pub is-twenty-three : numberOf TooBig ≡ 23
 unfolding numberOf
 is-twenty-three = refl
-
--- "Fields are judged left to right, cut or size first, meaning second": an unknown flag and a count over 32 are refused with nothing behind them,
--- and a flag or a value that is missing is cut off, whatever object it would be for.
-
-pub flag-first : (n : ℕ) → payload n Flagged (0x02 ∷ []) ≡ refused Unknown
-unfolding payload maybe flagged number numberFrom tooBig from refuse _then_
-flag-first n = refl
-
-pub no-flag : (n : ℕ) → payload n Flagged [] ≡ refused Cut
-unfolding payload maybe number numberFrom _then_
-no-flag n = refl
-
-pub no-value : (n : ℕ) → payload n Flagged (0x01 ∷ []) ≡ refused Cut
-unfolding payload maybe flagged single number numberFrom tooBig from _then_
-no-value n = refl
-
-pub count-first : (n : ℕ) → countedStart n (0x21 ∷ []) ≡ refused StartTooDeep
-unfolding countedStart counted number numberFrom tooBig from refuse _then_
-count-first n = refl
 
 -- 14. Trace 3 as a file.
 
