@@ -14,6 +14,7 @@ use lib.Seq.{getD-append-add, getD-drop}
 use Rattle.values.specs.Sizes.{capacity}
 use Rattle.families.specs.Objects.{newRegister}
 use Rattle.families.specs.declared.Object.{Object}
+use Rattle.recording_meaning.specs.Inputs.{as-inputs}
 use Rattle.recording_meaning.specs.Models.{Model}
 use Rattle.recording_meaning.specs.Lawful.{Lawful}
 use Rattle.recording_meaning.specs.EventTurns.{Good}
@@ -55,7 +56,7 @@ module _ (M : Model) (L : Lawful M) (file : List ℕ) where
   good-loaded = go (header file) refl
     where
       go : (r : Read Object) → header file ≡ r → Good M L (loadOf M file .tester)
-      go (got o n) e = let f = loaded-fed M file o n e in rw (f .3) (good-feed M L (f .0) (M .new o) (good-new M L o))
+      go (got o n) e = let f = loaded-fed M file o n e in rw (f .3) (good-feed M L (as-inputs (f .0)) (M .new o) (good-new M L o))
       go (refused why) e = rw (not-loaded M file why e) (good-new M L (newRegister (pos 0)))
 
   -- a place is one of a file of at most 65,536 bytes
