@@ -1,6 +1,6 @@
 -- The corpus file of document 01, on the list of its bytes, field by field. What a number stands for in its family is the table of
 -- `families`; no family is named here.
-use Prim.Native.Nat.{ℕ, zero, suc, _+_, _*_, _/_, _%_, _^_}
+use Prim.Native.Nat.{ℕ, zero, suc, _+_, _/_, _%_}
 use mathlib.Core.Bool.{Bool, true, false}
 use mathlib.Core.List.{List, [], _∷_}
 use lib.ListN.{length, take, set}

@@ -1,5 +1,4 @@
 -- How the code's answers say what is read.
-use Prim.Native.Nat.{ℕ}
 use lib.IntN.{pos}
 use Rattle.history.specs.Events.{Event, invoked, returned}
 use Rattle.families.specs.Families.{families}
@@ -10,8 +9,6 @@ use Rattle.families.specs.declared.event.Event.the-variants.{Invoked, Returned}
 use Rattle.families.specs.declared.Object.{Object}
 use Rattle.families.specs.declared.Op.{Op}
 use Rattle.families.specs.declared.Ret.{Ret}
-use Rattle.numbers.specs.declared.NumberRead.{NumberRead}
-use Rattle.numbers.specs.declared.NumberRead.the-variants.{Number, Refused as NRefused}
 use Rattle.format.specs.declared.payload.PayloadRead.{PayloadRead}
 use Rattle.format.specs.declared.payload.PayloadRead.the-variants.{Payload, Refused as PRefused}
 use Rattle.format.specs.declared.operations.OpRead.{OpRead}

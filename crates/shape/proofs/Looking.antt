@@ -20,7 +20,8 @@ use Rattle.shape.specs.declared.Look.{Look}
 use Rattle.stepping.specs.Record.{blankOperation, held, operationAt, findFlying}
 use Rattle.stepping.specs.Shape.{kindOf, outcomeFits, operationFits, shapeOf, shapedWith}
 use Rattle.shape.specs.Pass.{markOf, marksFrom, look, lookOf, sizesFit, goesOn, countsIn, leftAfter, flyingAfter, noneLeft}
-use Rattle.stepping.specs.RecordLaws.{held-cons, held-end, neither, both, never}
+use Rattle.values.specs.SameValues.{both}
+use Rattle.stepping.specs.RecordLaws.{held-cons, held-end, neither, never}
 use Rattle.shape.specs.Marking.{mark-back, marks-are}
 use Rattle.shape.proofs.Passing.{rest, located, rest-start, located-start, rest-end, located-end, rest-unfit, rest-no, rest-yes, located-step}
 

@@ -25,7 +25,8 @@ use Rattle.stepping.specs.Record.{held, isPending, flyingBy, flyingFrom, findFl
 use Rattle.stepping.specs.Shape.{kindOf, doneBy, countDone, operationFits, operationsFit, noneOf, flyingLast, countsRight, shapeOf}
 use Rattle.stepping.specs.StepChecks.{placeOf}
 use Rattle.shape.specs.Pass.{countsBy, goesOn, leftAfter, flyingAfter, noneLeft}
-use Rattle.stepping.specs.RecordLaws.{neither, both, below-no, below-same}
+use Rattle.values.specs.SameValues.{both}
+use Rattle.stepping.specs.RecordLaws.{neither, below-no, below-same}
 
 -- no operation of a thread that has a mark
 unfoldable pub clear : List ℕ → List Operation → Bool

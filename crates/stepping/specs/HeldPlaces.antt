@@ -17,7 +17,8 @@ use Rattle.stepping.specs.declared.history.Flying.{Flying}
 use Rattle.stepping.specs.declared.history.Flying.the-variants.{At, Nothing}
 use Rattle.stepping.specs.Record.{held, flyingBy, flyingFrom, findFlying}
 use Rattle.stepping.specs.Shape.{kindOf, doneBy, countDone, operationsFit, flyingLast, countsRight, shapeOf, shapedWith}
-use Rattle.stepping.specs.RecordLaws.{both, never, below-at}
+use Rattle.values.specs.SameValues.{both}
+use Rattle.stepping.specs.RecordLaws.{never, below-at}
 
 -- what is found is among what is held
 

@@ -10,6 +10,7 @@ use native.Mathlib.Omega.{arith}
 use lib.ListN.{length, length-map, getD, take, drop, drop-of-length-le}
 use lib.Seq.{drop-cons, getD-take, length-take-le}
 use Rattle.values.specs.Value.{pick}
+use Rattle.values.specs.SameValues.{both}
 use Rattle.stepping.specs.Shape.{allBelow}
 
 -- the first n of a list, from place i on
@@ -32,11 +33,6 @@ unmapped f l n e = sym (length-map l f) ∙ e
 pub neither : (b : Bool) → pick b false false ≡ false
 neither true = refl
 neither false = refl
-
--- the parts of a test that holds
-pub both : (b x : Bool) → pick b x false ≡ true → (b ≡ true) × (x ≡ true)
-both true x h = (refl, h)
-both false x h = (h, cc)
 
 pub never : {A : Type 0} → false ≡ true → A
 never e = let z : _≡_ {A = ℕ} 0 1 = cc in absurd (omega arith)

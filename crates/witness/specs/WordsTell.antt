@@ -1,7 +1,7 @@
 -- The words tell the return: no two returns of one object have the same words.
 use Prim.Native.Nat.{ℕ}
 use mathlib.Core.Path.{_≡_, sym, ap, _∙_}
-use mathlib.Core.List.{List, _∷_}
+use mathlib.Core.List.{List}
 use lib.ListN.{getD}
 use Rattle.values.specs.Coded.{coded}
 use Rattle.families.specs.Codes.{retCoded}
