@@ -1,4 +1,4 @@
--- The records that calls made, and that `then` gives 9 exactly to the others.
+-- The records that calls made are those of which `then` keeps what is said; any other gets 9 from it.
 use Prim.Native.Nat.{ℕ}
 use mathlib.Core.Path.{_≡_, refl, sym, ap, ap₂, subst}
 use mathlib.Core.Logic.{_↔_, _≢_, _⊎_, inl, inr, ⊎-elim}

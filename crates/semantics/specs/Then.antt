@@ -1,4 +1,4 @@
--- A record of a history goes on with `then`: one that calls made from where it stands, one that they could not have made to 9.
+-- What calls can say of an object, and what `then` makes of a record: one that says such a thing goes on or stays, any other gets 9.
 use Prim.Native.Nat.{ℕ}
 use mathlib.Core.Path.{_≡_, refl, sym, ap, subst}
 use mathlib.Core.Bool.{Bool, true, false}
