@@ -10,7 +10,7 @@ use borrow.Author.Tests.{ltb-true, eqb-false}
 use native.Mathlib.Omega.{arith}
 use Rattle.values.specs.Value.{pick}
 use Rattle.values.specs.Sizes.{room}
-use Rattle.objects.specs.Stack.{pushes, pushed, pops, stackRoom, storageAnswer, frees, depthAfter}
+use Rattle.objects.specs.Stack.{pushes, pushed, pops, popped, stackRoom, storageAnswer, frees, depthAfter}
 use Rattle.families.specs.Family.{Family, stacks, familyOf, opFamily, retFamily}
 use Rattle.families.specs.Families.{sameRet}
 use Rattle.families.specs.Same.{returns}
@@ -23,8 +23,12 @@ use Rattle.families.specs.declared.Kind.the-variants.{Register, WORegist
 use Rattle.families.specs.declared.Op.{Op}
 use Rattle.families.specs.declared.Op.the-variants.{Register as ORegister, WORegister as OWORegister, Vec as OVec}
 use Rattle.families.specs.declared.Ret.{Ret}
+use Rattle.families.specs.declared.Ret.the-variants.{Register as RRegister, WORegister as RWORegister, Vec as RVec}
+use Rattle.values.specs.declared.value.Maybe.{Maybe}
 use Rattle.objects.specs.declared.vec.VecOp.{VecOp}
 use Rattle.objects.specs.declared.vec.VecOp.the-variants.{Push, Pop, Len}
+use Rattle.objects.specs.declared.vec.VecRet.{VecRet}
+use Rattle.objects.specs.declared.vec.VecRet.the-variants.{PushOk, PopOk, LenOk}
 use Rattle.values.specs.declared.held.Held.{Held}
 use Rattle.values.specs.declared.refusal.Refusal.the-variants.{NoRoom}
 use Rattle.values.specs.declared.refusal.Check.the-variants.{Clear, Refused}
@@ -149,6 +153,31 @@ wrong-room h op ret e = go (takes op) refl e
     go : (b : Bool) → takes op ≡ b → pick b (taken ret) false ≡ true → roomCheck h op ≡ Clear
     go true t e = taker-room h op t
     go false t e = absurd (let z : _≡_ {A = ℕ} 0 1 = cc in omega arith)
+
+-- An operation is done though its return is wrong exactly if it is a Pop with a PopOk.
+
+unpopped : (b : Bool) → pick b false false ≡ true → ⊥
+unpopped true e = let z : _≡_ {A = ℕ} 0 1 = cc in omega arith
+unpopped false e = let z : _≡_ {A = ℕ} 0 1 = cc in omega arith
+
+stack-wrong : (p : VecOp) (q : VecRet) → pick (pops p) (popped q) false ≡ true ↔ (p ≡ Pop) × ((m : Maybe) × (q ≡ PopOk m))
+unfolding pops popped
+stack-wrong Pop (PopOk m) = (λ e. (refl, (m, refl)), λ x. refl)
+stack-wrong Pop PushOk = (λ e. absurd (let z : _≡_ {A = ℕ} 0 1 = cc in omega arith), λ x. absurd (let z : _≡_ {A = ℕ} 0 1 = cc in omega arith))
+stack-wrong Pop (LenOk n) = (λ e. absurd (let z : _≡_ {A = ℕ} 0 1 = cc in omega arith), λ x. absurd (let z : _≡_ {A = ℕ} 0 1 = cc in omega arith))
+stack-wrong (Push v) q = (λ e. absurd (let z : _≡_ {A = ℕ} 0 1 = cc in omega arith), λ x. absurd (let z : _≡_ {A = ℕ} 0 1 = cc in omega arith))
+stack-wrong Len q = (λ e. absurd (let z : _≡_ {A = ℕ} 0 1 = cc in omega arith), λ x. absurd (let z : _≡_ {A = ℕ} 0 1 = cc in omega arith))
+
+pub wrong-exactly : (op : Op) (ret : Ret) → leavesWrong op ret ≡ true ↔ (op ≡ OVec Pop) × ((m : Maybe) × (ret ≡ RVec (PopOk m)))
+unfolding leavesWrong takes taken
+wrong-exactly (ORegister p) ret = (λ e. absurd (let z : _≡_ {A = ℕ} 0 1 = cc in omega arith), λ x. absurd (let z : _≡_ {A = ℕ} 0 1 = cc in omega arith))
+wrong-exactly (OWORegister p) ret = (λ e. absurd (let z : _≡_ {A = ℕ} 0 1 = cc in omega arith), λ x. absurd (let z : _≡_ {A = ℕ} 0 1 = cc in omega arith))
+wrong-exactly (OVec p) (RVec q) = (
+  λ e. let x = stack-wrong p q .0 e in (ap OVec (x .0), (x .1 .0, ap RVec (x .1 .1))),
+  λ x. stack-wrong p q .1 (cc, (x .1 .0, cc)),
+)
+wrong-exactly (OVec p) (RRegister q) = (λ e. absurd (unpopped (pops p) e), λ x. absurd (let z : _≡_ {A = ℕ} 0 1 = cc in omega arith))
+wrong-exactly (OVec p) (RWORegister q) = (λ e. absurd (unpopped (pops p) e), λ x. absurd (let z : _≡_ {A = ℕ} 0 1 = cc in omega arith))
 
 -- in these families a return is right exactly if it is the object's answer
 
