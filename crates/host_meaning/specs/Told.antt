@@ -9,13 +9,14 @@ use lib.ListN.{length, getD}
 use Rattle.history.specs.Events.{Events}
 use Rattle.history.specs.Papers.{Linearizable, SequentiallyConsistent}
 use Rattle.families.specs.Families.{State, families}
+use Rattle.semantics.specs.Invoking.{holds}
 use Rattle.recording_meaning.specs.Models.{Model, sequentialModel, linearizabilityModel}
 use Rattle.recording_meaning.specs.Lawful.{Lawful, sequential-lawful, linearizability-lawful}
 use Rattle.recording_meaning.specs.Inputs.{as-inputs, broken, drawn, taken}
 use Rattle.judging.specs.declared.answer.Verdict.{Verdict}
 use Rattle.judging.specs.declared.answer.Verdict.the-variants.{Order, NoOrder, Undecided}
 use Rattle.judging.specs.Answers.{judgeOf}
-use Rattle.judging_meaning.specs.Judging.{start-of, JudgesFresh}
+use Rattle.judging_meaning.specs.Judging.{JudgesFresh}
 use Rattle.judging_meaning.specs.JudgedFresh.{fresh-sequential, fresh-linearizable}
 use Rattle.judging_meaning.specs.VerdictsOneWay.{verdict-fed}
 use Rattle.corpus.specs.Load.{Load, loadOf}
@@ -25,7 +26,7 @@ use Rattle.host.specs.Loads.{unbroken}
 use Rattle.host.specs.CallMeaning.{judged-of}
 use Rattle.host.specs.CallMeant.{says, calls}
 use Rattle.host_meaning.specs.Telling.{verdict-byte, Met, attempts-of, Tells}
-use Rattle.host_meaning.specs.Whole.{all-taken, begins-with}
+use Rattle.host_meaning.specs.Whole.{all-taken, begins-fresh}
 
 -- Where the call answers, the first byte is the report's verdict.
 pub byte-is : (file : List ℕ) (model budget : ℕ) (answer : List ℕ) → callNumber model answer ≡ 0
@@ -54,14 +55,14 @@ module _ (M : Model) (L : Lawful M) (Meets : State → Events families → Type 
     kept = unbroken M (c .events) (M .new (c .start)) (c .recorded)
 
     -- all of its events count, from the header's object on
-    met-is : Meets (start-of M (M .new (c .start))) (taken M (M .new (c .start)) (as-inputs (c .events))) ≡ Met M file Meets c
-    met-is = rw (all-taken M (c .events) (M .new (c .start)) (c .recorded), begins-with M L file c) refl
+    met-is : Meets (holds (c .start)) (taken M (M .new (c .start)) (as-inputs (c .events))) ≡ Met M file Meets c
+    met-is = rw (all-taken M (c .events) (M .new (c .start)) (c .recorded)) refl
 
     order-when : (verdict ≡ Order) ↔ ((attempts-of M file c ≤ budget) × Met M file Meets c)
-    order-when = rw met-is at (fresh (c .start) (as-inputs (c .events)) budget .order-fed kept)
+    order-when = rw met-is at (fresh (c .start) (as-inputs (c .events)) budget .order-fed (c .start) (begins-fresh M L file c) kept)
 
     no-order-when : (verdict ≡ NoOrder) ↔ ((attempts-of M file c ≤ budget) × (Met M file Meets c → ⊥))
-    no-order-when = rw met-is at (fresh (c .start) (as-inputs (c .events)) budget .no-order-fed kept)
+    no-order-when = rw met-is at (fresh (c .start) (as-inputs (c .events)) budget .no-order-fed (c .start) (begins-fresh M L file c) kept)
 
     undecided-when : (verdict ≡ Undecided) ↔ (budget < attempts-of M file c)
     undecided-when = fresh (c .start) (as-inputs (c .events)) budget .undecided-fed kept

@@ -21,6 +21,7 @@ use Rattle.recording_meaning.specs.Lawful.{Lawful, sequential-lawful, lineariza
 use Rattle.recording_meaning.specs.EventTurns.{Good, good-shaped}
 use Rattle.recording_meaning.specs.Reaching.{good-new}
 use Rattle.recording_meaning.specs.Inputs.{Inputs, broken, give, feed, drawn, taken}
+use Rattle.recording_meaning.specs.Meaning.{Fresh}
 use Rattle.recording_meaning.specs.TesterFeeding.{step-of, good-give, good-feed, fed-rows, invalid-exactly}
 use Rattle.judging.specs.declared.answer.Verdict.{Verdict}
 use Rattle.judging.specs.declared.answer.Verdict.the-variants.{Order, NoOrder, Undecided, Invalid}
@@ -61,21 +62,21 @@ module _ (M : Model) (L : Lawful M) (Meets : State → Events families → Type 
       turned (inl e) = not-both in-shape e
       turned (inr e) = invalid-exactly M L start l .0 e
 
-  has-order : HasOrder M fed ↔ Meets (start-of M fresh) (taken M fresh l)
-  has-order =
-      subst (λ (o : Object). HasOrder M fed ↔ Meets (holds o) (taken M fresh l)) (start-fed M L l fresh (good-new M L start))
+  has-order : (o : Object) → Fresh M o fresh → HasOrder M fed ↔ Meets (holds o) (taken M fresh l)
+  has-order o f =
+      subst (λ (o : Object). HasOrder M fed ↔ Meets (holds o) (taken M fresh l)) (start-fed M L l fresh (good-new M L start) ∙ f .starts)
       (meets (taken M fresh l) (rows-of M fed) (fed-rows M L start l) (start-of M fed))
 
   judges-fed : (b : ℕ) → JudgesFed M Meets start l b (judgeOf M fed b)
   judges-fed b = record {
     invalid-fed = (λ e. unsound .0 (exactly Invalid .0 e), λ e. exactly Invalid .1 (unsound .1 e));
-    order-fed = λ u. (
-      λ e. let w = exactly Order .0 e in (w .1, has-order .0 (w .2)),
-      λ w. exactly Order .1 (sound u, w .0, has-order .1 (w .1)),
+    order-fed = λ o f u. (
+      λ e. let w = exactly Order .0 e in (w .1, has-order o f .0 (w .2)),
+      λ w. exactly Order .1 (sound u, w .0, has-order o f .1 (w .1)),
     );
-    no-order-fed = λ u. (
-      λ e. let w = exactly NoOrder .0 e in (w .1, λ m. w .2 (has-order .1 m)),
-      λ w. exactly NoOrder .1 (sound u, w .0, λ o. w .1 (has-order .0 o)),
+    no-order-fed = λ o f u. (
+      λ e. let w = exactly NoOrder .0 e in (w .1, λ m. w .2 (has-order o f .1 m)),
+      λ w. exactly NoOrder .1 (sound u, w .0, λ p. w .1 (has-order o f .0 p)),
     );
     undecided-fed = λ u. (λ e. exactly Undecided .0 e .1, λ h. exactly Undecided .1 (sound u, h));
   }

@@ -15,6 +15,7 @@ use Rattle.semantics.specs.Invoking.{holds}
 use Rattle.families.specs.declared.Object.{Object}
 use Rattle.recording_meaning.specs.Models.{Model, rows-of}
 use Rattle.recording_meaning.specs.Inputs.{Inputs, broken, feed, drawn, taken}
+use Rattle.recording_meaning.specs.Meaning.{Fresh}
 use Rattle.judging.specs.declared.answer.Answer.{Answer}
 use Rattle.judging.specs.declared.answer.Placed.{Placed}
 use Rattle.judging.specs.declared.answer.Verdict.{Verdict}
@@ -90,11 +91,12 @@ module _ (M : Model) where
   pub record JudgesFed (Meets : State → Events families → Type 0) (start : Object) (l : Inputs) (b : ℕ) (a : Answer) : Type 0 where
     -- Invalid exactly if some input drew 4 or 5
     pub invalid-fed : (a .verdict ≡ Invalid) ↔ (broken (drawn M (M .new start) l) ≡ true)
-    -- if none did: Order exactly if the budget covers the search and the events meet the model, No order exactly if it does and they do not
-    pub order-fed : broken (drawn M (M .new start) l) ≡ false
-        → (a .verdict ≡ Order) ↔ ((needed (feed M (M .new start) l) ≤ b) × Meets (start-of (M .new start)) (taken M (M .new start) l))
-    pub no-order-fed : broken (drawn M (M .new start) l) ≡ false
-        → (a .verdict ≡ NoOrder) ↔ ((needed (feed M (M .new start) l) ≤ b) × (Meets (start-of (M .new start)) (taken M (M .new start) l) → ⊥))
+    -- if none did, from the object o that the constructor began with, the start given or what stands in for it: Order exactly if the budget covers the
+    -- search and the events meet the model, No order exactly if it does and they do not
+    pub order-fed : (o : Object) → Fresh M o (M .new start) → broken (drawn M (M .new start) l) ≡ false
+        → (a .verdict ≡ Order) ↔ ((needed (feed M (M .new start) l) ≤ b) × Meets (holds o) (taken M (M .new start) l))
+    pub no-order-fed : (o : Object) → Fresh M o (M .new start) → broken (drawn M (M .new start) l) ≡ false
+        → (a .verdict ≡ NoOrder) ↔ ((needed (feed M (M .new start) l) ≤ b) × (Meets (holds o) (taken M (M .new start) l) → ⊥))
     -- and Undecided exactly if the budget is less than what the search needs
     pub undecided-fed : broken (drawn M (M .new start) l) ≡ false → (a .verdict ≡ Undecided) ↔ (b < needed (feed M (M .new start) l))
 
