@@ -1,40 +1,29 @@
-// Numbers 3, 7, 8 and 9 where no record is out of shape but what is given is refused: bare objects, constructors, and events of another family.
-use crate::shapes::pop;
-use crate::shapes::popped;
-use crate::shapes::read;
-use crate::shapes::say_both;
-use crate::shapes::zero_read;
+// Bare objects and constructors: what they answer where the object is refused, or what is asked of it.
+use crate::records::op_of;
+use crate::records::ret_of;
+use crate::records::small;
 use families::Object;
 use families::Op;
 use families::Ret;
-use faults::asked;
 use lists::telling::say;
 use lists::telling::tell;
-use objects::vec::VecOp;
-use objects::vec::VecRet;
 use semantics::Answer;
 use semantics::Said;
 use semantics::invoke;
 use semantics::is_valid_history;
 use semantics::is_valid_step;
+use testers::Answers;
 use testers::Testers;
 use values::refusal::number;
 use values::sizes::ROOM;
 
-// A stack of zeros.
-fn stack(depth: u32) -> Object {
+// A register at 0, or a stack of so many zeros.
+fn object_of(family: u8, depth: u8) -> Object {
+    if family == 0 {
+        return Object::default_register();
+    }
     let items = [0; ROOM];
-    Object::stack(items, depth)
-}
-
-fn push() -> Op {
-    let push = VecOp::Push(1);
-    Op::Vec(push)
-}
-
-fn pushed() -> Ret {
-    let ok = VecRet::PushOk;
-    Ret::Vec(ok)
+    Object::stack(items, depth as u32)
 }
 
 fn say_answer(answer: Answer) {
@@ -85,12 +74,17 @@ fn say_bare(object: Object, op: Op, ret: Ret) {
     say(b"\n");
 }
 
-// What the constructors answer.
-fn say_new(depth: u32) {
-    let answers = Testers::new(stack(depth));
+// OP RET FAMILY DEPTH: what `invoke`, a step, a history of no steps and one of that step answer.
+pub fn tell_bare(numbers: &[u64]) {
+    let op = op_of(small(numbers, 0));
+    let ret = ret_of(small(numbers, 1));
+    let object = object_of(small(numbers, 2), small(numbers, 3));
+    say_bare(object, op, ret);
+}
+
+fn say_made(answers: Answers) {
     let a = answers.linearizability;
     let b = answers.sequential;
-    tell(b"8. new, of a stack of %: ", 0, depth as u64, 0);
     tell(b"linearizable: %, len &", 0, a.number as u64, a.len as u64);
     tell(
         b" | sequential: %, len &\n",
@@ -100,27 +94,8 @@ fn say_new(depth: u32) {
     );
 }
 
-pub fn run() {
-    say(b"3. a stack's operation and return to a register's testers: ");
-    say_both(asked(0, read(), 1), pop(), popped());
-    say(b"\n3. a stack's return alone: ");
-    say_both(asked(0, read(), 1), read(), popped());
-    say(b"\n3. Pop of a bare register: ");
-    say_bare(Object::default_register(), pop(), popped());
-    say(b"3. Read with PopOk of a bare register: ");
-    say_bare(Object::default_register(), read(), popped());
-    say(b"7. Push on a bare stack of 95: ");
-    say_bare(stack(95), push(), pushed());
-    say(b"7. Push on a bare stack of 96: ");
-    say_bare(stack(96), push(), pushed());
-    say(b"7. Push with PopOk(nothing) on it: ");
-    say_bare(stack(96), push(), popped());
-    say(b"9. Push on a bare stack of 97: ");
-    say_bare(stack(97), push(), pushed());
-    say(b"9. Read of it: ");
-    say_bare(stack(97), read(), zero_read());
-    say_new(32);
-    say_new(33);
-    say_new(96);
-    say_new(97);
+// FAMILY DEPTH: what the constructors answer.
+pub fn tell_new(numbers: &[u64]) {
+    let object = object_of(small(numbers, 0), small(numbers, 1));
+    say_made(Testers::new(object));
 }

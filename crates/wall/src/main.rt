@@ -1,17 +1,18 @@
 // The traces of document 01 for the bench wall, run, a line each to hold beside it. They stand in data/traces.txt, which
-// begins with what its lines say. Behind them stand the refusals that no trace draws: 3, 7, 8 and each cause of 9.
+// begins with what its lines say. Behind them stand the
+// refusals that no trace draws: 3, 7, 8 and each cause of 9.
 mod bare;
 mod files;
 mod orders;
+mod records;
 mod script;
 mod seen;
-mod shapes;
 mod telling;
 mod trace;
 mod verdicts;
 
 // Room for the traces.
-const TEXT: usize = 8192;
+const TEXT: usize = 16384;
 
 // Handed out by a function, so that only its length is known where it is lent.
 fn blank() -> [u8; TEXT] {
@@ -29,6 +30,4 @@ fn main() {
     let length = io::read_full(fd, &mut text);
     libc::close(fd);
     script::run(&text[..length]);
-    bare::run();
-    shapes::run();
 }

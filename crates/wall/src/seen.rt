@@ -79,7 +79,7 @@ fn say_numbers(numbers: Numbers, len: usize) {
     tell(b" %, len &, ", 0, numbers.both as u64, len as u64);
 }
 
-// The verdict and its attempts, and whether the checker takes the order.
+// The verdict and its attempts, and whether the checker took an order.
 fn say_verdict(answer: Answer, taken: bool) {
     let verdict = answer.verdict;
     tell(
@@ -96,16 +96,44 @@ fn say_verdict(answer: Answer, taken: bool) {
     tell(b"no", 0, 0, 0);
 }
 
-pub fn say_linearizability(tester: LinearizabilityTester, op: Op, ret: Ret) {
-    say_numbers(numbers_of(tester, op, ret), tester.len());
-    let answer = linearizability::judge(tester, u64::MAX);
+// Whether the checker takes, of a tester, the order that the judge finds of another.
+fn accepts(tester: LinearizabilityTester, beside: LinearizabilityTester) -> bool {
+    let answer = linearizability::judge(beside, u64::MAX);
     let order = answer.order;
-    say_verdict(answer, takes(tester, answer.length, order));
+    takes(tester, answer.length, order)
 }
 
-pub fn say_sequential(tester: SequentialConsistencyTester, op: Op, ret: Ret) {
-    say_numbers(sequential_numbers_of(tester, op, ret), tester.len());
-    let answer = sequential_consistency::judge(tester, u64::MAX);
+fn accepts_sequential(
+    tester: SequentialConsistencyTester,
+    beside: SequentialConsistencyTester,
+) -> bool {
+    let answer = sequential_consistency::judge(beside, u64::MAX);
     let order = answer.order;
-    say_verdict(answer, takes_sequential(tester, answer.length, order));
+    takes_sequential(tester, answer.length, order)
+}
+
+pub fn say_linearizability(
+    tester: LinearizabilityTester,
+    beside: LinearizabilityTester,
+    op: Op,
+    ret: Ret,
+) {
+    say_numbers(numbers_of(tester, op, ret), tester.len());
+    say_verdict(
+        linearizability::judge(tester, u64::MAX),
+        accepts(tester, beside),
+    );
+}
+
+pub fn say_sequential(
+    tester: SequentialConsistencyTester,
+    beside: SequentialConsistencyTester,
+    op: Op,
+    ret: Ret,
+) {
+    say_numbers(sequential_numbers_of(tester, op, ret), tester.len());
+    say_verdict(
+        sequential_consistency::judge(tester, u64::MAX),
+        accepts_sequential(tester, beside),
+    );
 }

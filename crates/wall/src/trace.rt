@@ -1,6 +1,9 @@
 // What a line of numbers tells, beside an event: data/traces.txt says what each stands for.
+use crate::bare::tell_bare;
+use crate::bare::tell_new;
 use crate::files::tell_judged;
 use crate::files::tell_loaded;
+use crate::records::tell_record;
 use crate::verdicts::judge;
 use lists::events::START;
 use lists::events::event_at;
@@ -19,6 +22,12 @@ const JUDGE: u64 = 5;
 const LOAD: u64 = 6;
 
 const CALL: u64 = 7;
+
+const RECORD: u64 = 8;
+
+const BARE: u64 = 9;
+
+const NEW: u64 = 10;
 
 // The family of the testers' object, and how events are told.
 pub struct Setting {
@@ -63,7 +72,26 @@ fn is_readable(family: u64, numbers: &[u64]) -> bool {
     lead == TELL || event.good
 }
 
-// What is asked of testers of an object of that family, or of a file.
+// What is asked of records, bare objects and constructors; whether it is one of these.
+fn asks_apart(numbers: &[u64]) -> bool {
+    let lead = natural(numbers, 0);
+    let rest = from(numbers, 1);
+    if lead == RECORD {
+        tell_record(rest);
+        return true;
+    }
+    if lead == BARE {
+        tell_bare(rest);
+        return true;
+    }
+    if lead == NEW {
+        tell_new(rest);
+        return true;
+    }
+    false
+}
+
+// What is asked of testers of an object of that family, of a file, or apart from both.
 pub fn ask(testers: Testers, family: u64, numbers: &[u64]) {
     let lead = natural(numbers, 0);
     let budget = wide(natural(numbers, 1), natural(numbers, 2));
@@ -77,6 +105,9 @@ pub fn ask(testers: Testers, family: u64, numbers: &[u64]) {
     }
     if lead == CALL {
         tell_judged(budget, from(numbers, 3));
+        return;
+    }
+    if asks_apart(numbers) {
         return;
     }
     if is_readable(family, numbers) {
