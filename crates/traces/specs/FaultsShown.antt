@@ -1,7 +1,9 @@
 -- Every fault is shown, by computation.
+use Prim.Native.Nat.{_+_}
 use mathlib.Core.Path.{_≡_, refl, ap}
 use mathlib.Core.Bool.{Bool, true, false, not, cond}
 use mathlib.Core.List.{List, [], _∷_, map}
+use Rattle.values.specs.Sizes.{room}
 use Rattle.values.specs.Value.{zigzag}
 use Rattle.values.specs.Coded.{sameCoded}
 use Rattle.objects.specs.Register.{registerAnswer, registerAfter, registerRetCoded}
@@ -29,7 +31,8 @@ use Rattle.semantics.specs.Histories.{taken, historyOf}
 use Rattle.witness.specs.Words.{wordsOf}
 use Rattle.witness.specs.Checking.{sameWords, replays, checkOf}
 use Rattle.faults.specs.Records.{counters, oneNote, recordOf, starting, filled, asked, returned, noting, flying, overtaken, held}
-use Rattle.traces.specs.Faults.{GetsNine, Fault, Outcome, expected, found, without-notes, SequentialToo, Shown, AllShown, faults, BareNine, Full, Constructs, NineShown}
+use Rattle.traces.specs.Faults.{GetsNine, Fault, Outcome, expected, found, without-notes, SequentialToo, Shown, AllShown, BareNine, Full, Constructs}
+use Rattle.traces.specs.FaultList.{faults, NineShown}
 
 -- Out of shape is all that the row asks for.
 
@@ -97,15 +100,15 @@ testers-shown : AllShown faults
 unfolding zigzag sameCoded registerAnswer registerAfter registerRetCoded depthCheck lowCheck retCoded answers right after sameRet familyOf opFamily retFamily familyNumber familyCheck opBelongs retBelongs isClear startCheck shapeCheck sizeCheck inOrder newRegister newStack stateOf isPending flyingBy flyingFrom findFlying doneBy countDone notable allBelow outcomeFits operationFits operationsFit noneOf flyingLast countsRight shapeOf notesFit notesFitFrom notesIn notesWith reasonNumber numberOf isTaken invokeOf returnOf sizeOf sequentialInvoke sequentialReturn sequentialLen linearizabilityInvoke linearizabilityReturn linearizabilityLen rowsOf notesOf withoutOrder toldOf judgedOf judgeOf sequentialInvret linearizabilityInvret wordsOf sameWords replays checkOf counters oneNote recordOf starting filled asked returned noting flying overtaken held
 testers-shown = all-shown faults refl
 
-bare-nine : BareNine (newStack zeros 97)
-unfolding newStack bareInvoke stepOf historyOf invokeCheck stepCheck inOrder shapeCheck depthCheck
-bare-nine = record { invoking = λ op. refl; stepping = λ op ret. refl; walking = λ ts. refl }
+bare-nine : BareNine (newStack zeros (room + 1))
+unfolding refusalNumber newStack bareInvoke stepOf historyOf invokeCheck stepCheck inOrder shapeCheck depthCheck
+bare-nine = record { number = refl; invoking = λ op. refl; stepping = λ op ret. refl; walking = λ ts. refl }
 
-bare-full : Full (newStack zeros 96)
-unfolding newStack bareInvoke stepOf historyOf taken invokeCheck stepCheck inOrder shapeCheck depthCheck opBelongs retBelongs familyCheck opFamily retFamily familyOf familyNumber
+bare-full : Full (newStack zeros room)
+unfolding refusalNumber newStack bareInvoke stepOf historyOf taken invokeCheck stepCheck inOrder shapeCheck depthCheck opBelongs retBelongs familyCheck opFamily retFamily familyOf familyNumber
     roomCheck stepRoom tookRoom stackRoom pushes pushed heldOf answerBy answerOf storageAnswer rightOf leftBy kindOf heldAfter depthAfter leavesOf itemsAfter
     zigzag sameCoded stackRetCoded sameRet retCoded
-bare-full = record { push = refl; push-ok = refl; len = refl; len-ok = refl; no-steps = refl }
+bare-full = record { number = refl; push = refl; push-ok = refl; len = refl; len-ok = refl; no-steps = refl }
 
 linearizability-constructs : Constructs linearizabilityModel
 unfolding newStack newLinearizability begunOf startCheck inOrder shapeCheck depthCheck sizeCheck lowCheck standIn fresh madeNumberOf refusalNumber

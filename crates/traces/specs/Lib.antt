@@ -2,6 +2,7 @@
 pub mod Traces
 pub mod Later
 pub mod Proved
--- Records out of shape, one or more for each cause: the list, and the proof.
+-- Records out of shape, one or more for each cause: what is claimed of one, the list, and the proof.
 pub mod Faults
+pub mod FaultList
 pub mod FaultsShown
