@@ -31,7 +31,6 @@ use Rattle.judging.specs.declared.answer.Verdict.the-variants.{Invalid}
 use Rattle.judging.specs.Answers.{withOrder, withoutOrder, judgeOf}
 use Rattle.witness.specs.Words.{wordsOf}
 use Rattle.witness.specs.Checking.{checkOf}
-use Rattle.faults.specs.Records.{asked}
 use Rattle.traces.specs.Traces.{covers}
 
 -- What is to come of a record out of shape: 9 from each call, whatever is asked, and the tester handed back as it came; `len` 0; verdict Invalid with 0
