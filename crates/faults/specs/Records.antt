@@ -67,7 +67,7 @@ starting d = linearizability (record {
   valid = true;
 }) (replicate (capacity * threads) 0)
 
--- as many completed Reads of thread 0 as a tester holds, and the count that is said; the last one notes that of thread 7
+-- as many completed Reads of thread 0 as a tester holds, and the count that is said; the last one notes so many of the last thread
 unfoldable pub filled : ℕ → ℕ → LinearizabilityTester
 filled count note = linearizability (record {
   start = newRegister (pos 0);

@@ -1,5 +1,5 @@
-// Records that no calls make, for number 9 of document 01: each function makes records that differ in one thing, so that one of them has a fault
-// and its neighbour has none. `traces` proves what comes of them, and `wall` runs them.
+// Records that no calls make, for number 9 of document 01: each function makes records that differ in one thing, so that
+// one of them has a fault and its neighbour has none. `traces` proves what comes of them, and `wall` runs them.
 use families::Object;
 use families::Op;
 use families::Ret;
@@ -152,7 +152,8 @@ pub fn starting(depth: u32) -> LinearizabilityTester
     }
 }
 
-// As many completed Reads of thread 0 as a tester holds, and the count that is said; the last one notes that of thread 7.
+// As many completed Reads of thread 0 as a tester holds, and the count that is said; the last one notes so many of the
+// last thread.
 pub fn filled(count: usize, note: u8) -> LinearizabilityTester
     ensures { λ r. ⌜ r ≡ filledOf count note ⌝ }
 {

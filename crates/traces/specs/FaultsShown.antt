@@ -37,7 +37,8 @@ use Rattle.traces.specs.FaultList.{faults, NineShown}
 -- Out of shape is all that the row asks for.
 
 linearizability-nine : (s : LinearizabilityTester) → shapedTester s ≡ false → GetsNine linearizabilityModel s
-unfolding linearizabilityInvoke linearizabilityReturn linearizabilityInvret linearizabilityLen invokeOf returnOf isTaken reasonNumber numberOf sizeOf judgeOf checkOf
+unfolding linearizabilityInvoke linearizabilityReturn linearizabilityInvret linearizabilityLen invokeOf returnOf isTaken reasonNumber numberOf sizeOf
+    judgeOf checkOf
 linearizability-nine s e = record {
   on-invoke = λ t op. rw e (refl, refl);
   on-return = λ t ret. rw e (refl, refl);
@@ -97,7 +98,12 @@ all-shown [] e = tt
 all-shown (x ∷ xs) e = (shown x (cc), all-shown xs (cc))
 
 testers-shown : AllShown faults
-unfolding zigzag sameCoded registerAnswer registerAfter registerRetCoded depthCheck lowCheck retCoded answers right after sameRet familyOf opFamily retFamily familyNumber familyCheck opBelongs retBelongs isClear startCheck shapeCheck sizeCheck inOrder newRegister newStack stateOf isPending flyingBy flyingFrom findFlying doneBy countDone notable allBelow outcomeFits operationFits operationsFit noneOf flyingLast countsRight shapeOf notesFit notesFitFrom notesIn notesWith reasonNumber numberOf isTaken invokeOf returnOf sizeOf sequentialInvoke sequentialReturn sequentialLen linearizabilityInvoke linearizabilityReturn linearizabilityLen rowsOf notesOf withoutOrder toldOf judgedOf judgeOf sequentialInvret linearizabilityInvret wordsOf sameWords replays checkOf counters oneNote recordOf starting filled asked returned noting flying overtaken held
+unfolding zigzag sameCoded registerAnswer registerAfter registerRetCoded depthCheck lowCheck retCoded answers right after sameRet familyOf opFamily
+    retFamily familyNumber familyCheck opBelongs retBelongs isClear startCheck shapeCheck sizeCheck inOrder newRegister newStack stateOf isPending
+    flyingBy flyingFrom findFlying doneBy countDone notable allBelow outcomeFits operationFits operationsFit noneOf flyingLast countsRight shapeOf
+    notesFit notesFitFrom notesIn notesWith reasonNumber numberOf isTaken invokeOf returnOf sizeOf sequentialInvoke sequentialReturn sequentialLen
+    linearizabilityInvoke linearizabilityReturn linearizabilityLen rowsOf notesOf withoutOrder toldOf judgedOf judgeOf sequentialInvret
+    linearizabilityInvret wordsOf sameWords replays checkOf counters oneNote recordOf starting filled asked returned noting flying overtaken held
 testers-shown = all-shown faults refl
 
 bare-nine : BareNine (newStack zeros (room + 1))
@@ -105,7 +111,8 @@ unfolding refusalNumber newStack bareInvoke stepOf historyOf invokeCheck stepChe
 bare-nine = record { number = refl; invoking = λ op. refl; stepping = λ op ret. refl; walking = λ ts. refl }
 
 bare-full : Full (newStack zeros room)
-unfolding refusalNumber newStack bareInvoke stepOf historyOf taken invokeCheck stepCheck inOrder shapeCheck depthCheck opBelongs retBelongs familyCheck opFamily retFamily familyOf familyNumber
+unfolding refusalNumber newStack bareInvoke stepOf historyOf taken invokeCheck stepCheck inOrder shapeCheck depthCheck opBelongs retBelongs
+    familyCheck opFamily retFamily familyOf familyNumber
     roomCheck stepRoom tookRoom stackRoom pushes pushed heldOf answerBy answerOf storageAnswer rightOf leftBy kindOf heldAfter depthAfter leavesOf itemsAfter
     zigzag sameCoded stackRetCoded sameRet retCoded
 bare-full = record { number = refl; push = refl; push-ok = refl; len = refl; len-ok = refl; no-steps = refl }

@@ -1,5 +1,5 @@
-// Records that no calls make, and what every call answers of them; each beside the same without its fault. They are made by the functions whose promises
-// are the definitions of the list that `traces` proves.
+// Records that no calls make, and what every call answers of them; each beside the same without its fault. They are made
+// by the functions of `faults`, whose promises are the definitions that the list proved in `traces` is made of.
 use crate::seen::say_linearizability;
 use crate::seen::say_sequential;
 use families::Op;
@@ -97,7 +97,8 @@ fn record_at(what: u8, numbers: &[u64]) -> LinearizabilityTester {
     )
 }
 
-// What is answered of a tester, and of a sequential one with the same history. The checker is asked about the orders of the other.
+// What is answered of a tester, and of a sequential one with the same history. The checker is asked about the orders that
+// the judges find of the other.
 fn say_both(tester: LinearizabilityTester, beside: LinearizabilityTester, op: Op, ret: Ret) {
     say(b"linearizable: ");
     say_linearizability(tester, beside, op, ret);
