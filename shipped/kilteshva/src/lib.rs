@@ -15,7 +15,7 @@
 //! }
 //! ```
 //!
-//! The judge is a proved library, `libhost.a`, and this crate is a door to it with no judgement of its own.
+//! The judge is a proved library, `libkilteshva.a`, and this crate is a door to it with no judgement of its own.
 //! Green is [`Answer::Order`] and nothing else ([`Answer::is_order`]): a capture that was refused, that is
 //! invalid or that the budget left undecided is not green.
 //!
@@ -25,19 +25,21 @@
 //!
 //! # Building
 //!
-//! The build script looks for `libhost.a` in the folder that the environment variable `KILTESHVA_LIBRARY`
-//! names (an absolute path), or else in `target/staticlib` at the top of this repository, where
-//! `rt staticlib host` writes it.
+//! The build script looks for `libkilteshva.a` in the folder that the environment variable `KILTESHVA_LIBRARY`
+//! names (an absolute path), or else in `target/library` at the top of this repository, where
+//! `shipped/library` writes it. [`library_digest`] tells which library was linked.
 
 #![warn(missing_docs)]
 
 mod answer;
 mod bytes;
+mod made_of;
 mod model;
 pub mod raw;
 mod refusal;
 
 pub use answer::{Answer, Unknown};
+pub use made_of::{library_digest, PROGRAM_DIGEST};
 pub use model::Model;
 pub use refusal::Refusal;
 

@@ -12,7 +12,7 @@ pub const SHORT_BUFFER: u32 = 10;
 /// What the call returns when the model's number is not 0 or 1; nothing was written.
 pub const UNKNOWN_MODEL: u32 = 11;
 
-#[link(name = "host", kind = "static")]
+#[link(name = "kilteshva", kind = "static")]
 extern "C" {
     fn kilteshva_judge(
         file: *const u8,
