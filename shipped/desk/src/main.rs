@@ -1,45 +1,93 @@
 //! The release desk's command: judges every capture of the files and folders given.
 
 mod arguments;
+mod digest;
 mod finding;
 mod judging;
+mod manifest;
+mod names;
+mod outcome;
 mod output;
 mod progress;
 mod report;
+mod stop;
 mod tally;
+mod watching;
 
 use arguments::{Asked, Options};
-use judging::Terms;
+use judging::Task;
+use manifest::Manifest;
+use output::{complain, print};
 use report::Report;
 use std::process::ExitCode;
+use std::sync::Arc;
+use stop::Stop;
 use tally::{GREEN, TROUBLE};
 
 fn main() -> ExitCode {
-    let status = match arguments::parse(std::env::args_os().skip(1)) {
+    asked().into()
+}
+
+/// Does what is asked, and hands the exit status on.
+fn asked() -> u8 {
+    if output::is_closed() {
+        complain("standard output is closed: a report that nobody gets is not green");
+        return TROUBLE;
+    }
+    match arguments::parse(std::env::args_os().skip(1)) {
         Ok(Asked::Help) => {
-            output::print(include_str!("help.txt"));
+            print(include_str!("help.txt"));
+            GREEN
+        }
+        Ok(Asked::Version) => {
+            print(&version());
             GREEN
         }
         Ok(Asked::Judge(options)) => judge(&options),
         Err(message) => {
-            eprintln!("kilteshva: {message} (--help tells what can be asked)");
+            complain(&format!("{message} (--help tells what can be asked)"));
             TROUBLE
         }
-    };
-    status.into()
+    }
+}
+
+/// The program's version, and what it and its library were made from.
+fn version() -> String {
+    let version = env!("CARGO_PKG_VERSION");
+    let library = kilteshva::library_digest();
+    let program = kilteshva::PROGRAM_DIGEST.unwrap_or("built by hand");
+    format!("kilteshva {version}\nlibrary {library}\nprogram {program}\n")
 }
 
 fn judge(options: &Options) -> u8 {
-    let finding = finding::find(&options.paths);
-    let terms = Terms {
-        models: &options.models,
-        budget: options.budget,
-        jobs: options.jobs.get(),
+    let stop = Stop::new(options.limit);
+    stop::catch_signals();
+    let manifest = match options.manifest.as_deref().map(Manifest::read) {
+        Some(Err(message)) => {
+            complain(&message);
+            return TROUBLE;
+        }
+        Some(Ok(manifest)) => Some(manifest),
+        None => None,
     };
-    let mut report = Report::new(options, finding.found.len());
-    if let Err(error) = judging::judge_all(&finding.found, &terms, &mut report) {
-        eprintln!("kilteshva: {error}");
-        return TROUBLE;
+    let (files, interrupted) = finding::find(&options.paths, &stop);
+    let task = Arc::new(Task {
+        files,
+        models: options.models.clone(),
+        budget: options.budget,
+        manifest,
+        digests: options.json,
+        own_files: output::own_files(),
+    });
+    let mut report = Report::new(options, task.clone());
+    if interrupted.is_some() {
+        return report.end(interrupted, &stop);
     }
-    report.summarise(finding.skipped).status()
+    match judging::judge_all(&task, options.jobs.get(), &stop, &mut report) {
+        Ok(interrupted) => report.end(interrupted, &stop),
+        Err(error) => {
+            complain(&format!("no thread to judge on: {error}"));
+            TROUBLE
+        }
+    }
 }

@@ -6,6 +6,7 @@ use std::fmt;
 
 /// What the judge says of a file. Only [`Answer::Order`] is green.
 #[derive(Clone, Debug, Eq, Hash, PartialEq)]
+#[non_exhaustive]
 pub enum Answer {
     /// Some one-at-a-time order explains the capture.
     Order {

@@ -33,14 +33,18 @@
 
 mod answer;
 mod bytes;
+mod counts;
+pub mod file;
 mod made_of;
 mod model;
 pub mod raw;
 mod refusal;
 
 pub use answer::{Answer, Unknown};
+pub use counts::{count, Counts};
+pub use file::judge_file;
 pub use made_of::{library_digest, PROGRAM_DIGEST};
-pub use model::Model;
+pub use model::{Model, UnknownModel};
 pub use refusal::Refusal;
 
 /// The most bytes that a corpus file has. A longer one is refused whatever it holds

@@ -7,6 +7,7 @@ use std::fmt;
 /// The numbers that are missing are given elsewhere: 1, 3 and 7 to 9 to events, steps and records that no
 /// file can make, 10 and 11 to calls that [`judge`](crate::judge) doesn't make.
 #[derive(Clone, Copy, Debug, Eq, Hash, Ord, PartialEq, PartialOrd)]
+#[non_exhaustive]
 #[repr(u8)]
 pub enum Refusal {
     /// An event of a thread that doesn't exist: threads are 0 to 7.

@@ -4,13 +4,24 @@
 
 use std::fs;
 use std::path::{Path, PathBuf};
-use std::process::Command;
+use std::process::{Command, Output};
 
 /// What came of a run.
 pub struct Ran {
     pub status: i32,
     pub stdout: String,
     pub stderr: String,
+}
+
+impl From<Output> for Ran {
+    fn from(output: Output) -> Self {
+        let text = |bytes| String::from_utf8(bytes).expect("text");
+        Ran {
+            status: output.status.code().expect("an exit status"),
+            stdout: text(output.stdout),
+            stderr: text(output.stderr),
+        }
+    }
 }
 
 impl Ran {
@@ -23,19 +34,41 @@ impl Ran {
         let lines = self.stdout.lines();
         lines.take_while(|line| !line.is_empty()).collect()
     }
+
+    /// The words that those lines begin with, and the paths behind them.
+    pub fn verdicts(&self) -> Vec<(&str, &str)> {
+        let lines = self.file_lines().into_iter();
+        lines
+            .map(|line| {
+                let (verdict, rest) = line.split_at(10);
+                (
+                    verdict.trim_end(),
+                    rest[1..].split(": ").next().unwrap_or(""),
+                )
+            })
+            .collect()
+    }
+
+    pub fn last_line(&self) -> &str {
+        self.stdout.lines().last().unwrap_or("")
+    }
+}
+
+/// The command, to be run in a folder. The files of tests are fresh; it waits for none of them to have been still for a
+/// while, unless that is tested.
+pub fn command(folder: &Path, words: &[&str]) -> Command {
+    let mut command = Command::new(env!("CARGO_BIN_EXE_kilteshva"));
+    command.current_dir(folder);
+    if !words.iter().any(|word| word.starts_with("--settle")) {
+        command.arg("--settle=0");
+    }
+    command.args(words);
+    command
 }
 
 /// Runs the command in a folder with these words.
 pub fn run_in(folder: &Path, words: &[&str]) -> Ran {
-    let mut command = Command::new(env!("CARGO_BIN_EXE_kilteshva"));
-    let output = command.args(words).current_dir(folder).output();
-    let output = output.expect("the command");
-    let text = |bytes| String::from_utf8(bytes).expect("text");
-    Ran {
-        status: output.status.code().expect("an exit status"),
-        stdout: text(output.stdout),
-        stderr: text(output.stderr),
-    }
+    command(folder, words).output().expect("the command").into()
 }
 
 /// Runs the command at the top of the repository, where the folder `samples` is.
@@ -54,9 +87,22 @@ pub fn folder(name: &str) -> PathBuf {
     folder
 }
 
-/// A capture that is green, and one that is not.
-pub const GREEN: &[u8] = b"RAW1\x00\x00";
+/// A Read of the register's 0, one of 1, which nobody wrote, and nothing at all.
+pub const GREEN: &[u8] = b"RAW1\x00\x00\x00\x01\x01\x01\x00";
 pub const RED: &[u8] = b"RAW1\x00\x00\x00\x01\x01\x01\x02";
+pub const EMPTY: &[u8] = b"RAW1\x00\x00";
+
+/// Eight overlapping Writes so many times over, and a Read of what nobody wrote: three times take some hundred thousand
+/// attempts and more to see that there is no order, five times more than any budget here.
+pub fn slow(times: usize) -> Vec<u8> {
+    let mut slow = b"RAW1\x00\x00".to_vec();
+    for _ in 0..times {
+        slow.extend((0..8).flat_map(|thread| [2 * thread, 0, 2 * thread]));
+        slow.extend((0..8).flat_map(|thread| [2 * thread + 1, 0]));
+    }
+    slow.extend([0, 1, 1, 1, 127]);
+    slow
+}
 
 /// Writes a file in a folder, and the folders that it needs.
 pub fn write(folder: &Path, name: &str, bytes: &[u8]) {
