@@ -40,6 +40,7 @@ pub fn load<F: Read + Family>(file: &[u8], model: Model) -> Option<Tester<F>> {
         Model::Linearizable => {
             Tester::Linearizable(feed(LinearizabilityTester::new(start), reader)?)
         }
+        _ => return None,
     })
 }
 

@@ -25,6 +25,7 @@ impl<F: Family> Tester<F> {
             Model::Linearizable => {
                 Tester::Linearizable(feed(LinearizabilityTester::new(object), history))
             }
+            other => panic!("the Rust has no tester for {other}"),
         }
     }
 

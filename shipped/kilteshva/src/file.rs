@@ -101,12 +101,9 @@ impl From<&Metadata> for Stamp {
 }
 
 /// Reads a capture into `bytes`, up to one byte more than one can have: it is then refused whatever follows. The stamp is
-/// that of the file as it was read; who keeps it can see later whether the file is still the same.
+/// that of the file as it was read: who compares it later with that of the path sees whether the file is still the same.
 pub fn read(path: &Path, bytes: &mut Vec<u8>) -> Result<Stamp, Unread> {
     bytes.clear();
-    if !fs::metadata(path)?.is_file() {
-        return Err(Unread::NotAFile);
-    }
     let file = OpenOptions::new()
         .read(true)
         .custom_flags(O_NONBLOCK)
@@ -116,10 +113,10 @@ pub fn read(path: &Path, bytes: &mut Vec<u8>) -> Result<Stamp, Unread> {
         return Err(Unread::NotAFile);
     }
     let before = Stamp::from(&before);
-    let most = LONGEST_FILE as u64 + 1;
-    (&file).take(most).read_to_end(bytes)?;
-    let whole = bytes.len() as u64 == before.size.min(most);
-    if whole && Stamp::of_open(&file)? == before && Stamp::of(path).ok() == Some(before) {
+    let due = before.size.min(LONGEST_FILE as u64 + 1);
+    // No byte more is asked for than there is: an end that has moved shows in the size.
+    (&file).take(due).read_to_end(bytes)?;
+    if bytes.len() as u64 == due && Stamp::of_open(&file)? == before {
         Ok(before)
     } else {
         Err(Unread::Changed)
@@ -131,7 +128,15 @@ pub fn read(path: &Path, bytes: &mut Vec<u8>) -> Result<Stamp, Unread> {
 /// A file that is written so slowly that it did not change while it was read is judged as far as it goes. Whoever hands
 /// files over should write them under another name and rename them, or send their sizes and digests along.
 pub fn judge_file(path: impl AsRef<Path>, model: Model, budget: u64) -> Result<Answer, Unread> {
+    let path = path.as_ref();
+    // To open a device may do something to it.
+    if !fs::metadata(path)?.is_file() {
+        return Err(Unread::NotAFile);
+    }
     let mut bytes = Vec::new();
-    read(path.as_ref(), &mut bytes)?;
-    Ok(judge(&bytes, model, budget))
+    let stamp = read(path, &mut bytes)?;
+    match Stamp::of(path) {
+        Ok(now) if now == stamp => Ok(judge(&bytes, model, budget)),
+        _ => Err(Unread::Changed),
+    }
 }

@@ -82,3 +82,15 @@ fn models_have_names_and_numbers() {
     assert_eq!(Model::Sequential.number(), 0);
     assert_eq!(Model::Linearizable.number(), 1);
 }
+
+#[test]
+fn a_model_is_read_by_its_name_alone() {
+    for model in Model::ALL {
+        assert_eq!(model.to_string().parse(), Ok(model));
+    }
+    for name in ["", "both", "Linearizable", "sequential ", "1"] {
+        let unknown = name.parse::<Model>().expect_err(name);
+        let told = format!("a model is linearizable or sequential, not {name}");
+        assert_eq!(unknown.to_string(), told);
+    }
+}
