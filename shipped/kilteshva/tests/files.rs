@@ -99,6 +99,28 @@ fn a_file_that_changes_while_it_is_read_is_told() {
     assert!(changed > 0);
 }
 
+/// Others take a file's place over and over, each with the same bytes.
+#[test]
+fn a_file_whose_place_another_takes_is_told() {
+    let path = written("replaced", READ);
+    let ended = AtomicBool::new(false);
+    let changed = scope(|scope| {
+        scope.spawn(|| {
+            let other = path.with_extension("other");
+            while !ended.load(Ordering::SeqCst) {
+                fs::write(&other, READ).expect("a file");
+                fs::rename(&other, &path).expect("a rename");
+            }
+        });
+        let answers = (0..5_000).map(|_| judge_file(&path, Model::Linearizable, 10));
+        let changed = answers.filter(|answer| matches!(answer, Err(Unread::Changed)));
+        let changed = changed.count();
+        ended.store(true, Ordering::SeqCst);
+        changed
+    });
+    assert!(changed > 0);
+}
+
 #[test]
 fn a_stamp_shows_every_change() {
     let path = written("stamp", READ);
@@ -110,15 +132,19 @@ fn a_stamp_shows_every_change() {
     sleep(Duration::from_millis(20));
     fs::write(&path, READ).expect("a file");
     assert_ne!(stamp(), before);
-    // Who sets the time of the last change back, changes another.
-    let rewritten = stamp();
-    sleep(Duration::from_millis(20));
-    let set = Command::new("touch")
-        .args(["-d", "2020-01-01"])
-        .arg(&path)
-        .status();
-    assert!(set.expect("touch").success());
-    assert_ne!(stamp(), rewritten);
+    // Who sets its time back, changes another time.
+    let set_back = || {
+        let set = Command::new("touch")
+            .args(["-d", "2020-01-01"])
+            .arg(&path)
+            .status();
+        assert!(set.expect("touch").success());
+        sleep(Duration::from_millis(20));
+        stamp()
+    };
+    let first = set_back();
+    fs::write(&path, READ).expect("a file");
+    assert_ne!(set_back(), first);
     assert!(stamp().age() < Duration::from_secs(60));
     // Another file of the same bytes and times in its place.
     let (other, kept) = (path.with_extension("other"), stamp());
