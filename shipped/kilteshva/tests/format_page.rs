@@ -192,7 +192,7 @@ fn worded(answer: &Answer) -> [String; 2] {
         Answer::Refused { refusal, place } => {
             (format!("Refused {} at {place}", refusal.number()), None)
         }
-        Answer::Unknown(unknown) => panic!("{unknown:?}"),
+        other => panic!("{other:?}"),
     };
     let counted = match attempts {
         None => words.clone(),
