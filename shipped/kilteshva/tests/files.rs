@@ -8,7 +8,7 @@ use std::path::{Path, PathBuf};
 use std::process::Command;
 use std::sync::atomic::{AtomicBool, Ordering};
 use std::thread::{scope, sleep};
-use std::time::Duration;
+use std::time::{Duration, Instant};
 
 /// A Read of the register's 0, answered.
 const READ: &[u8] = b"RAW1\x00\x00\x00\x01\x01\x01\x00";
@@ -69,56 +69,51 @@ fn what_is_no_file_is_not_read() {
     assert!(matches!(unread, Err(Unread::Io(_))), "{unread:?}");
 }
 
-/// Somebody writes a file over and over, while others read it: whoever reads it is told, or got what was there in between.
-#[test]
-fn a_file_that_changes_while_it_is_read_is_told() {
-    let path = written("changing", &[0; 65_536]);
+/// Asks over and over, while somebody does something to a file, until it is seen to have changed: whether it was, in time.
+fn is_told(ask: impl Fn() -> Result<(), Unread>, mut meddle: impl FnMut() + Send) -> bool {
     let ended = AtomicBool::new(false);
-    let changed = scope(|scope| {
+    scope(|scope| {
         scope.spawn(|| {
-            for byte in (0..=255).cycle() {
-                if ended.load(Ordering::SeqCst) {
-                    break;
-                }
-                let mut file = File::options().write(true).open(&path).expect("the file");
-                file.write_all(&[byte; 65_536]).expect("bytes");
+            while !ended.load(Ordering::SeqCst) {
+                meddle();
             }
         });
-        let mut bytes = Vec::new();
-        let mut changed = 0;
-        for _ in 0..2_000 {
-            match read(&path, &mut bytes) {
-                Ok(_) => {}
-                Err(Unread::Changed) => changed += 1,
-                Err(other) => panic!("{other}"),
-            }
-        }
+        let begun = Instant::now();
+        let asked =
+            std::iter::repeat_with(ask).take_while(|_| begun.elapsed() < Duration::from_secs(60));
+        let told = asked
+            .into_iter()
+            .any(|answer| matches!(answer, Err(Unread::Changed)));
         ended.store(true, Ordering::SeqCst);
-        changed
-    });
-    assert!(changed > 0);
+        told
+    })
+}
+
+#[test]
+fn a_file_that_changes_while_it_is_read_is_told() {
+    let path = written("changing", &[0; 60_000]);
+    let mut file = File::options().append(true).open(&path).expect("the file");
+    let grow = || {
+        file.write_all(&[0]).expect("a byte");
+        if file.metadata().expect("its size").len() > 65_000 {
+            file.set_len(60_000).expect("room");
+        }
+    };
+    let ask = || read(&path, &mut Vec::new()).map(drop);
+    assert!(is_told(ask, grow));
 }
 
 /// Others take a file's place over and over, each with the same bytes.
 #[test]
 fn a_file_whose_place_another_takes_is_told() {
     let path = written("replaced", READ);
-    let ended = AtomicBool::new(false);
-    let changed = scope(|scope| {
-        scope.spawn(|| {
-            let other = path.with_extension("other");
-            while !ended.load(Ordering::SeqCst) {
-                fs::write(&other, READ).expect("a file");
-                fs::rename(&other, &path).expect("a rename");
-            }
-        });
-        let answers = (0..5_000).map(|_| judge_file(&path, Model::Linearizable, 10));
-        let changed = answers.filter(|answer| matches!(answer, Err(Unread::Changed)));
-        let changed = changed.count();
-        ended.store(true, Ordering::SeqCst);
-        changed
-    });
-    assert!(changed > 0);
+    let other = path.with_extension("other");
+    let replace = || {
+        fs::write(&other, READ).expect("a file");
+        fs::rename(&other, &path).expect("a rename");
+    };
+    let ask = || judge_file(&path, Model::Linearizable, 10).map(drop);
+    assert!(is_told(ask, replace));
 }
 
 #[test]
