@@ -1,4 +1,6 @@
 // Corpus files: the bytes of a file in, a tester fed with its events out. The fields are read by `format`.
+#![tactic(auto)]
+
 mod feeding;
 pub mod linearizability;
 pub mod sequential_consistency;

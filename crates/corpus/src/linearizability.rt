@@ -11,7 +11,7 @@ use recording::linearizability::LinearizabilityTester;
 
 // The number of the refusal, the place of the event that it befell, and the tester as it stands; number
 // and place are 0 where all is loaded.
-#[derive(Drop)]
+#[derive(Clone, Copy)]
 pub struct Loaded {
     pub number: u8,
     pub place: u32,

@@ -10,7 +10,7 @@ use recording::sequential_consistency::SequentialConsistencyTester;
 
 // The number of the refusal, the place of the event that it befell, and the tester as it stands; number
 // and place are 0 where all is loaded.
-#[derive(Drop)]
+#[derive(Clone, Copy)]
 pub struct Loaded {
     pub number: u8,
     pub place: u32,

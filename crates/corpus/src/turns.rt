@@ -15,7 +15,7 @@ use values::sizes::THREADS;
 
 // Loading stops, with the number of the refusal and whether the history is still valid; or the event is taken, with
 // the place of its operation, and so many bytes are behind it.
-#[derive(Drop)]
+#[derive(Clone, Copy)]
 pub enum Turn {
     Stopped {
         number: u8,

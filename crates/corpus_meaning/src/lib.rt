@@ -1,1 +1,2 @@
 // Specifications only: there is no code in this crate.
+#![tactic(auto)]

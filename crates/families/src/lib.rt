@@ -1,5 +1,7 @@
 // The families: a register, a write-once register and a stack. All that is particular to one of them stands in
 // this crate, in a file of its own; the crates above see an object, operations and returns.
+#![tactic(auto)]
+
 pub mod codes;
 pub mod event;
 mod family;
@@ -16,7 +18,7 @@ use values::sizes::ROOM;
 use values::value::Maybe;
 
 // An operation names its family and, inside it, its own operation.
-#[derive(Drop)]
+#[derive(Clone, Copy)]
 pub enum Op {
     Register(RegisterOp),
     WORegister(WORegisterOp),
@@ -24,7 +26,7 @@ pub enum Op {
 }
 
 // A return likewise.
-#[derive(Drop)]
+#[derive(Clone, Copy)]
 pub enum Ret {
     Register(RegisterRet),
     WORegister(WORegisterRet),
@@ -49,7 +51,7 @@ pub fn no_ret() -> Ret
 
 // What an object is and, but for a stack's items, what it holds: a register its value, a write-once
 // register nothing or a value, a stack its depth.
-#[derive(Drop)]
+#[derive(Clone, Copy)]
 pub enum Kind {
     Register(i32),
     WORegister(Maybe),
@@ -57,7 +59,7 @@ pub enum Kind {
 }
 
 // An object; the items are a stack's storage, bottom first.
-#[derive(Drop)]
+#[derive(Clone, Copy)]
 pub struct Object {
     pub kind: Kind,
     pub items: [i32; ROOM],

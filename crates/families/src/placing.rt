@@ -11,7 +11,7 @@ use values::sizes::{FULL, ROOM};
 use values::value::Maybe;
 
 // How an operation stands in a history: in flight, or returned.
-#[derive(Drop)]
+#[derive(Clone, Copy)]
 pub enum Outcome {
     Pending,
     Returned(Ret),

@@ -1,5 +1,7 @@
 // Records that no calls make, for number 9 of document 01: each function makes records that differ in one thing, so that
 // one of them has a fault and its neighbour has none. `traces` proves what comes of them, and `wall` runs them.
+#![tactic(auto)]
+
 ghost use Rattle.std.specs.Prelude.{◌≡◌, set};
 ghost use Rattle.stepping.specs.Record.{blank_operation};
 ghost use Rattle.recording.specs.Testers.{sequential as sequential_of};

@@ -11,7 +11,7 @@ use numbers::refusal::Refusal;
 use numbers::{NumberRead, read_number};
 
 // An event, and how many bytes it took.
-#[derive(Drop)]
+#[derive(Clone, Copy)]
 pub enum EventRead {
     Event { event: Event, used: usize },
     Refused(Refusal),

@@ -20,14 +20,14 @@ use values::value::signed_of;
 pub const LONGEST: usize = 65536;
 
 // Where the events begin, or why there is no header.
-#[derive(Drop)]
+#[derive(Clone, Copy)]
 pub enum Begins {
     At(usize),
     Refused(Refusal),
 }
 
 // The initial object; the default register where the header is refused.
-#[derive(Drop)]
+#[derive(Clone, Copy)]
 pub struct Header {
     pub begins: Begins,
     pub start: Object,

@@ -12,7 +12,7 @@ use numbers::NumberRead;
 use numbers::refusal::Refusal;
 
 // An operation, and the place behind it.
-#[derive(Drop)]
+#[derive(Clone, Copy)]
 pub enum OpRead {
     Op { op: Op, next: usize },
     Refused(Refusal),

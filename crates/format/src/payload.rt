@@ -11,7 +11,7 @@ use numbers::refusal::Refusal;
 use values::coded::{Coded, Form};
 
 // The numbers that were read, and the place behind them.
-#[derive(Drop)]
+#[derive(Clone, Copy)]
 pub enum PayloadRead {
     Payload { coded: Coded, next: usize },
     Refused(Refusal),

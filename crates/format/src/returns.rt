@@ -12,7 +12,7 @@ use numbers::NumberRead;
 use numbers::refusal::Refusal;
 
 // A return, and the place behind it.
-#[derive(Drop)]
+#[derive(Clone, Copy)]
 pub enum RetRead {
     Ret { ret: Ret, next: usize },
     Refused(Refusal),

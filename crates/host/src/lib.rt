@@ -1,4 +1,6 @@
 // The host call: a file judged, and the answer laid into lent bytes.
+#![tactic(auto)]
+
 ghost use Rattle.std.specs.Prelude.{◌≡◌};
 ghost use Rattle.host.specs.Call.{call_number, call_answer};
 

@@ -9,7 +9,7 @@ use judging::answer::{Answer, NOBODY, Placed};
 use values::sizes::OPERATIONS;
 
 // The fields of an answer, in the order of its bytes.
-#[derive(Drop)]
+#[derive(Clone, Copy)]
 pub(crate) struct Report {
     pub(crate) verdict: u8,
     pub(crate) number: u8,

@@ -5,7 +5,7 @@ ghost use Rattle.judging.specs.Answers.{number_of, is_consistent, nobody_there, 
 use families::{Ret, no_ret};
 use values::sizes::OPERATIONS;
 
-#[derive(Drop)]
+#[derive(Clone, Copy)]
 pub enum Verdict {
     Order,
     NoOrder,
@@ -38,7 +38,7 @@ pub fn is_consistent(verdict: Verdict) -> bool
 }
 
 // A place of an order: a thread, and the return that its operation has there.
-#[derive(Drop)]
+#[derive(Clone, Copy)]
 pub struct Placed {
     pub thread: u8,
     pub ret: Ret,
@@ -58,7 +58,7 @@ pub(crate) fn nobody() -> Placed
 }
 
 // `order` has `length` places, and nobody behind them.
-#[derive(Drop)]
+#[derive(Clone, Copy)]
 pub struct Answer {
     pub verdict: Verdict,
     pub attempts: u64,

@@ -15,7 +15,7 @@ pub const SLOTS: usize = THREADS * OPERATIONS;
 
 // Thread t's k-th operation stands in the history at `slot[t * OPERATIONS + k]`; `started` has how many it
 // has.
-#[derive(Drop)]
+#[derive(Clone, Copy)]
 pub struct Index {
     pub slot: [u8; SLOTS],
     pub started: [u8; THREADS],

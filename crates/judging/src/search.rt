@@ -19,7 +19,7 @@ use values::held::{Held, Undo};
 use values::sizes::{OPERATIONS, THREADS};
 
 // What takes the search back over one placement.
-#[derive(Drop)]
+#[derive(Clone, Copy)]
 pub struct Level {
     pub held: Held,
     pub undo: Undo,
@@ -27,7 +27,7 @@ pub struct Level {
 }
 
 // How a search ended, how many operations were placed then, and the attempts made.
-#[derive(Drop)]
+#[derive(Clone, Copy)]
 pub struct Stopped {
     pub verdict: Verdict,
     pub depth: usize,

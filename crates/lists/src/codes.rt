@@ -10,7 +10,7 @@ const COUNTED: u64 = 2;
 const LENGTH: u64 = 2;
 
 // The numbers of an operation or of a return; where it is not good there is none.
-#[derive(Drop)]
+#[derive(Clone, Copy)]
 pub struct Told {
     pub good: bool,
     pub coded: Coded,

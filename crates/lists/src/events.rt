@@ -19,7 +19,7 @@ pub const BOTH: u64 = 3;
 
 // An event of one of the threads; where it is not good there is none. An invoke has no return, and a return no
 // operation: what stands in their place is not looked at.
-#[derive(Drop)]
+#[derive(Clone, Copy)]
 pub struct Event {
     pub good: bool,
     pub lead: u64,

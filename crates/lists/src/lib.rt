@@ -1,5 +1,7 @@
 // Lists of numbers that tell objects and events, a line each, read for the programs that run them. bench/README.md
 // describes their lines, and families has the table of numbers.
+#![tactic(auto)]
+
 pub mod bytes;
 pub mod codes;
 pub mod events;

@@ -17,7 +17,7 @@ const NO_DIGIT: u64 = u64::MAX;
 
 // A line as far as it is read: how many numbers are whole, and of the next one its size so far and whether it is below
 // zero.
-#[derive(Drop)]
+#[derive(Clone, Copy)]
 pub struct Reading {
     pub count: usize,
     pub size: u64,

@@ -7,14 +7,14 @@ use values::sizes::{FULL, ROOM};
 use values::value::signed_of;
 
 // An object; where it is not good there is none.
-#[derive(Drop)]
+#[derive(Clone, Copy)]
 pub struct Made {
     pub good: bool,
     pub object: Object,
 }
 
 // The storage of what holds several values, and whether all are values.
-#[derive(Drop)]
+#[derive(Clone, Copy)]
 struct Items {
     good: bool,
     items: [i32; ROOM],

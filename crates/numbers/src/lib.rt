@@ -1,4 +1,6 @@
 // The numbers of a corpus file: seven bits to a byte, lowest group first, the top bit set where more follow.
+#![tactic(auto)]
+
 pub mod refusal;
 
 ghost use Rattle.std.specs.Prelude.{◌≡◌, ◌≤◌, ◌<◌, ◌+◌, ◌*◌, ◌%◌, ◌^◌};
@@ -7,7 +9,7 @@ ghost use Rattle.numbers.specs.Number.{too_big, number, as_number};
 use refusal::Refusal;
 
 // A number, and the place behind it.
-#[derive(Drop)]
+#[derive(Clone, Copy)]
 pub enum NumberRead {
     Number { value: u32, next: usize },
     Refused(Refusal),

@@ -6,13 +6,13 @@ ghost use Rattle.objects.specs.Register.{register_answer, register_after, regist
 use values::coded::{Coded, Form};
 use values::value::{same_value, signed_of, zigzag};
 
-#[derive(Drop)]
+#[derive(Clone, Copy)]
 pub enum RegisterOp {
     Write(i32),
     Read,
 }
 
-#[derive(Drop)]
+#[derive(Clone, Copy)]
 pub enum RegisterRet {
     WriteOk,
     ReadOk(i32),

@@ -9,14 +9,14 @@ use values::refusal::{Check, Refusal};
 use values::sizes::{FULL, ROOM, START};
 use values::value::{Maybe, same_maybe, signed_of};
 
-#[derive(Drop)]
+#[derive(Clone, Copy)]
 pub enum VecOp {
     Push(i32),
     Pop,
     Len,
 }
 
-#[derive(Drop)]
+#[derive(Clone, Copy)]
 pub enum VecRet {
     PushOk,
     PopOk(Maybe),

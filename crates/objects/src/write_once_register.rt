@@ -7,13 +7,13 @@ ghost use Rattle.objects.specs.WriteOnce.{writes, write_answer, once_answer, onc
 use values::coded::{Coded, Form, maybe_coded, maybe_from};
 use values::value::{Maybe, same_maybe, same_value, signed_of};
 
-#[derive(Drop)]
+#[derive(Clone, Copy)]
 pub enum WORegisterOp {
     Write(i32),
     Read,
 }
 
-#[derive(Drop)]
+#[derive(Clone, Copy)]
 pub enum WORegisterRet {
     WriteOk,
     WriteFail,

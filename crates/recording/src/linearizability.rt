@@ -12,21 +12,21 @@ use stepping::recorded::{Made, Recorded, is_taken};
 
 // `notes` has at `i * THREADS + u` how many operations of thread u had completed when operation i was
 // invoked, and 0 for its own thread.
-#[derive(Drop)]
+#[derive(Clone, Copy)]
 pub struct LinearizabilityTester {
     pub history: History,
     pub notes: [u8; NOTES],
 }
 
 // A new tester, and what making it came to.
-#[derive(Drop)]
+#[derive(Clone, Copy)]
 pub struct New {
     pub made: Made,
     pub tester: LinearizabilityTester,
 }
 
 // The tester after an event, and what recording it came to.
-#[derive(Drop)]
+#[derive(Clone, Copy)]
 pub struct After {
     pub recorded: Recorded,
     pub tester: LinearizabilityTester,

@@ -10,20 +10,20 @@ use shape::look_at;
 use stepping::history::{History, begin};
 use stepping::recorded::{Made, Recorded, is_taken};
 
-#[derive(Drop)]
+#[derive(Clone, Copy)]
 pub struct SequentialConsistencyTester {
     pub history: History,
 }
 
 // A new tester, and what making it came to.
-#[derive(Drop)]
+#[derive(Clone, Copy)]
 pub struct New {
     pub made: Made,
     pub tester: SequentialConsistencyTester,
 }
 
 // The tester after an event, and what recording it came to.
-#[derive(Drop)]
+#[derive(Clone, Copy)]
 pub struct After {
     pub recorded: Recorded,
     pub tester: SequentialConsistencyTester,

@@ -16,7 +16,7 @@ use semantics::{Answer, Said, Stepped};
 use values::sizes::ROOM;
 
 // What a line came to, and the object that it left.
-#[derive(Drop)]
+#[derive(Clone, Copy)]
 struct Left {
     came: u64,
     object: Object,

@@ -6,7 +6,7 @@ use lists::fields::{from, natural};
 use lists::starts::kind_of;
 
 // An operation and its return; where it is not good there is none.
-#[derive(Drop)]
+#[derive(Clone, Copy)]
 pub struct Step {
     pub good: bool,
     pub op: Op,

@@ -2,6 +2,8 @@
 // of bare objects, of events fed to both testers and of whole histories, which proposed orders are legal, and
 // what calls of the host on corpus files come to. The lists stand in data/; bench/ makes them, and its README
 // describes their lines.
+#![tactic(auto)]
+
 mod bare;
 mod came;
 mod codes;

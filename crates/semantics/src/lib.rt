@@ -1,5 +1,7 @@
 // The reference objects, bare: what each operation answers and leaves, and whether a return, or a sequential history
 // of them, is right. What is particular to a family stands in `families`.
+#![tactic(auto)]
+
 mod refusal;
 
 ghost use Rattle.std.specs.Prelude.{◌≡◌};
@@ -10,26 +12,26 @@ use families::{Object, Op, Ret, placing};
 use refusal::{check_invoke, check_said, check_step};
 use values::refusal::{Check, Refusal};
 
-#[derive(Drop)]
+#[derive(Clone, Copy)]
 pub enum Answer {
     Returned(Ret),
     Refused(Refusal),
 }
 
-#[derive(Drop)]
+#[derive(Clone, Copy)]
 pub struct Invoked {
     pub answer: Answer,
     pub object: Object,
 }
 
-#[derive(Drop)]
+#[derive(Clone, Copy)]
 pub enum Said {
     Yes,
     No,
     Refused(Refusal),
 }
 
-#[derive(Drop)]
+#[derive(Clone, Copy)]
 pub struct Stepped {
     pub said: Said,
     pub object: Object,

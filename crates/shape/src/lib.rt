@@ -1,4 +1,6 @@
 // Whether a record is one that calls could have made: a history in one pass over its operations, and the notes beside it.
+#![tactic(auto)]
+
 pub mod notes;
 
 ghost use Rattle.std.specs.Prelude.{◌≡◌, true, false, ◌<◌, replicate};
@@ -15,7 +17,7 @@ use values::sizes::{OPERATIONS, THREADS};
 
 // Whether the history is in shape and, where it is, for each thread where its operation in flight stands: 0 for none,
 // else one more than the place.
-#[derive(Drop)]
+#[derive(Clone, Copy)]
 pub struct Look {
     pub ok: bool,
     pub flying: [u8; THREADS],

@@ -11,7 +11,7 @@ use values::refusal::Check;
 use values::sizes::{OPERATIONS, THREADS};
 
 // An operation of a thread, in flight or returned.
-#[derive(Drop)]
+#[derive(Clone, Copy)]
 pub struct Operation {
     pub thread: u8,
     pub op: Op,
@@ -20,7 +20,7 @@ pub struct Operation {
 
 // The first `count` operations, in the order of their invocations; `done` has how many each thread has
 // completed.
-#[derive(Drop)]
+#[derive(Clone, Copy)]
 pub struct History {
     pub start: Object,
     pub ops: [Operation; OPERATIONS],
@@ -30,7 +30,7 @@ pub struct History {
 }
 
 // Where in the history a thread has its operation in flight.
-#[derive(Drop)]
+#[derive(Clone, Copy)]
 pub enum Flying {
     At(usize),
     Nothing,
@@ -56,7 +56,7 @@ fn empty(start: Object) -> History
     }
 }
 
-#[derive(Drop)]
+#[derive(Clone, Copy)]
 pub struct Begun {
     pub made: Made,
     pub history: History,

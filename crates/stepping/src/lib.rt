@@ -1,5 +1,7 @@
 // The record of a history, and one step of recording: what an event comes to and what it changes. Whoever holds a history
 // stores the change in it.
+#![tactic(auto)]
+
 pub mod history;
 pub mod recorded;
 pub mod refusal;

@@ -6,7 +6,7 @@ use values::refusal;
 use values::refusal::Refusal;
 
 // Why an event is refused.
-#[derive(Drop)]
+#[derive(Clone, Copy)]
 pub enum Reason {
     AlreadyInvalid,
     NoSuchThread,
@@ -18,7 +18,7 @@ pub enum Reason {
 }
 
 // What recording an event comes to.
-#[derive(Drop)]
+#[derive(Clone, Copy)]
 pub enum Recorded {
     Taken,
     Refused(Reason),
@@ -58,7 +58,7 @@ pub fn is_taken(recorded: Recorded) -> bool
 }
 
 // What a constructor comes to.
-#[derive(Drop)]
+#[derive(Clone, Copy)]
 pub enum Made {
     New,
     Refused(Refusal),

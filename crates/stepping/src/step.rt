@@ -12,7 +12,7 @@ use families::refusal::{op_belongs, ret_belongs};
 use values::sizes::{OPERATIONS, THREADS};
 
 // The history after an event, and what recording came to.
-#[derive(Drop)]
+#[derive(Clone, Copy)]
 pub struct Step {
     pub recorded: Recorded,
     pub history: History,
@@ -20,7 +20,7 @@ pub struct Step {
 
 // What stands after an event that is taken: its operation, how many operations are held, how many its thread has
 // completed, and what marks the thread's operation in flight, 0 for none and else one more than its place.
-#[derive(Drop)]
+#[derive(Clone, Copy)]
 pub struct Change {
     pub operation: Operation,
     pub count: usize,

@@ -1,4 +1,6 @@
 // Both testers, fed the same events, for the programs that compare them with what is known of the events.
+#![tactic(auto)]
+
 ghost use Rattle.std.specs.Prelude.{◌≡◌};
 ghost use Rattle.testers.specs.PairedCalls.{joined_of, recorded_of, new_of, invoke_of, return_of, invret_of};
 
@@ -8,21 +10,21 @@ use recording::sequential_consistency::SequentialConsistencyTester;
 use recording::{linearizability, sequential_consistency};
 use stepping::recorded::{made_number, number};
 
-#[derive(Drop)]
+#[derive(Clone, Copy)]
 pub struct Testers {
     pub linearizability: LinearizabilityTester,
     pub sequential: SequentialConsistencyTester,
 }
 
 // The number that a call gave, and how many operations the tester then holds.
-#[derive(Drop)]
+#[derive(Clone, Copy)]
 pub struct Answer {
     pub number: u8,
     pub len: usize,
 }
 
 // What both answered, and both as the call left them.
-#[derive(Drop)]
+#[derive(Clone, Copy)]
 pub struct Answers {
     pub linearizability: Answer,
     pub sequential: Answer,

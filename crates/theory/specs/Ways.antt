@@ -1,7 +1,7 @@
 -- The ways of a space's search tree are exactly the space's ways to an end.
 use Rattle.std.specs.Prelude.{ℕ, zero, suc, ◌+◌, ◌≤◌, ◌<◌, ◌≡◌, refl, ◌↔◌, Bool, true, false, cond, List, ◌∷◌}
 use Rattle.std.proofs.Common.{arith}
-use Rattle.theory.specs.Tree.{Tree, done, stuck, Way, end, into, past, over, no_way_stuck}
+use Rattle.theory.specs.Tree.{Tree, done, stuck, placed, Way, end, into, past, over, no_way_stuck}
 use Rattle.theory.specs.Space.{Move, idle, refused, place, Space, Step, Leads, ends, goes, branch, row, point, grow, Falls}
 
 module _ {L : Type 0} (S : Space L) where
@@ -9,12 +9,16 @@ module _ {L : Type 0} (S : Space L) where
 
   module _ (below : S.Node → Tree (Step S)) (sound : (y : S.Node) (p : List (Step S)) → Way (below y) p → Leads S y p)
       (x : S.Node) (unended : S.finished x ≡ false) where
+    placed_leads : (t : ℕ) (r : Tree (Step S)) (l : L) (y : S.Node) (p : List (Step S)) → S.move x t ≡ place l y → t < S.threads
+        → (Way r p → Leads S x p) → Way (placed (record { thread = t; label = l; to = y }) (below y) r) p → Leads S x p
+    placed_leads t r l y _ e h f (into w) = goes unended h e (sound y _ w)
+    placed_leads t r l y p e h f (past w) = f w
+
     branch_leads : (t : ℕ) (r : Tree (Step S)) (p : List (Step S)) (v : Move L S.Node) → S.move x t ≡ v → t < S.threads
         → (Way r p → Leads S x p) → Way (branch S below t v r) p → Leads S x p
     branch_leads t r p idle e h f w = f w
     branch_leads t r p refused e h f (over w) = f w
-    branch_leads t r _ (place l y) e h f (into w) = goes unended h e (sound y _ w)
-    branch_leads t r p (place l y) e h f (past w) = f w
+    branch_leads t r p (place l y) e h f w = placed_leads t r l y p e h f w
 
     row_leads : (t m : ℕ) (p : List (Step S)) → t + m ≤ S.threads → Way (row S below x t m) p → Leads S x p
     row_leads t zero p h w = absurd (no_way_stuck w)
@@ -64,7 +68,7 @@ module _ {L : Type 0} (S : Space L) where
     leads_way zero h (goes {x = x} {y = y} {l = l} {t = t} o k e w) = absurd (omega (arith, falls x y t l e))
     leads_way (suc n) h (goes {x = x} {y = y} {l = l} {t = t} {p = p} o k e w) =
         let z : 0 + t ≡ t = omega arith in
-        let v : Way (grow S n y) p = leads_way n (omega (arith, falls x y t l e)) w in
+        let v : Way (grow S n y) p = leads_way {x = y} n (omega (arith, falls x y t l e)) w in
         rw o (rw z at (row_way (grow S n) x y l 0 t S.threads p k (rw z e) v))
 
     -- a tree that is grown as deep as the situation is large has the ways that lead from there to an end, and no others

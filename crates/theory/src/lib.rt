@@ -1,1 +1,2 @@
 // This crate has specs alone: the search over an abstract tree.
+#![tactic(auto)]

@@ -5,7 +5,7 @@ ghost use Rattle.values.specs.Coded.{maybe_coded, maybe_from};
 use crate::value::{Maybe, signed_of, zigzag};
 
 // The number in its family, how many values it carries, and the value as a file sends it, 0 where there is none.
-#[derive(Drop)]
+#[derive(Clone, Copy)]
 pub struct Coded {
     pub number: u32,
     pub count: u32,
@@ -13,7 +13,7 @@ pub struct Coded {
 }
 
 // What follows the number of an operation or a return: nothing, a number, or a flag and, where it is 1, a number.
-#[derive(Drop)]
+#[derive(Clone, Copy)]
 pub enum Form {
     Unknown,
     Bare,
@@ -22,7 +22,7 @@ pub enum Form {
 }
 
 // What follows the number of an object: a number, a flag and a number, or a count and so many numbers.
-#[derive(Drop)]
+#[derive(Clone, Copy)]
 pub enum StartForm {
     Unknown,
     Number,

@@ -2,7 +2,7 @@
 ghost use Rattle.std.specs.Prelude.{◌≡◌};
 ghost use Rattle.values.specs.Checks.{number_of, is_clear, in_order};
 
-#[derive(Drop)]
+#[derive(Clone, Copy)]
 pub enum Refusal {
     OtherFamily,
     NoRoom,
@@ -10,7 +10,7 @@ pub enum Refusal {
     OutOfShape,
 }
 
-#[derive(Drop)]
+#[derive(Clone, Copy)]
 pub enum Check {
     Clear,
     Refused(Refusal),

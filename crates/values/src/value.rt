@@ -2,7 +2,7 @@
 ghost use Rattle.std.specs.Prelude.{◌≡◌};
 ghost use Rattle.values.specs.Value.{eq_z, same_maybe, signed, zigzag as zigzag_of};
 
-#[derive(Drop)]
+#[derive(Clone, Copy)]
 pub enum Maybe {
     Nothing,
     Value(i32),

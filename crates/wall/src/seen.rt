@@ -12,7 +12,7 @@ use stepping::recorded::number;
 const THREAD: u32 = 6;
 
 // The numbers of the three calls that record.
-#[derive(Drop)]
+#[derive(Clone, Copy)]
 struct Numbers {
     invoke: u8,
     back: u8,

@@ -25,7 +25,7 @@ const BARE: u64 = 9;
 const NEW: u64 = 10;
 
 // The family of the testers' object, and how events are told.
-#[derive(Drop)]
+#[derive(Clone, Copy)]
 pub struct Setting {
     pub family: u64,
     pub telling: u64,

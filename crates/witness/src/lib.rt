@@ -1,5 +1,7 @@
 // A checker of proposed orders, on its own: it replays the words of an order on the bare object and shares
 // no code with the search.
+#![tactic(auto)]
+
 pub mod linearizability;
 mod replay;
 pub mod sequential_consistency;

@@ -13,7 +13,7 @@ use stepping::history::History;
 use values::sizes::THREADS;
 
 // What became of an operation: it may stand there, it is completed, and the object that it leaves.
-#[derive(Drop)]
+#[derive(Clone, Copy)]
 pub struct Settled {
     pub ok: bool,
     pub ended: bool,
@@ -22,7 +22,7 @@ pub struct Settled {
 
 // The replay so far: no place was wrong, nothing is placed or the last one is completed, how many operations
 // of each thread are placed, and the object.
-#[derive(Drop)]
+#[derive(Clone, Copy)]
 pub struct Stage {
     pub ok: bool,
     pub ended: bool,
