@@ -80,6 +80,7 @@ module _ (O : Object) where
 
   mine_bare : {t : ℕ} {R : Events O} → Mine t R → Alternates O R → R ≡ []
   mine_bare mine_nil a = refl
+  mine_bare {t = t} (mine_cons {r = r} {R = R} _) a = elim a [ ]
 
   -- a row fits what complete leaves of its events with responses added
   pub fits_of_lem : (t : ℕ) {r : List (Entry O)} (R : Events O) → Shaped O r → Mine t R → Alternates O (spell O t r ++ R)

@@ -24,7 +24,7 @@ module _ (O : Object) where
   shaped_drop zero s = s
   shaped_drop (suc p) empty = empty
   shaped_drop (suc p) (in_flight n) = rw (drop-nil {A = Entry O} p) empty
-  shaped_drop (suc p) (completed_first n s) = shaped_drop p s
+  shaped_drop (suc p) (completed_first {e = e} {q = q} {r = r} n s) = shaped_drop {r = r} p s
 
   pending_fits : (t : ℕ) {r : List (Entry O)} → Shaped O r → only_pending O r ≡ true → Fits O t r [] []
   pending_fits t empty h = fits_nil

@@ -124,7 +124,7 @@ module _ (O : Object) where
     feeds_split : {rows end : Rows O} (H : Events O) {G : Events O} → Feeds O keep rows (H ++ G) end
         → (mid : Rows O) × Feeds O keep rows H mid × Feeds O keep mid G end
     feeds_split {rows} [] w = (rows, fed, w)
-    feeds_split (invoked t o ∷ H) (invokes l f w) = let z = feeds_split H w in (z.0, invokes l f z.1, z.2)
+    feeds_split {rows = rows} {end = end} (invoked t o ∷ H) {G = G} (invokes l f w) = let z = feeds_split {rows = extend O rows t (new O keep rows t o)} H w in (z.0, invokes l f z.1, z.2)
     feeds_split (returned t q ∷ H) (gives_back l f w) = let z = feeds_split H w in (z.0, gives_back l f z.1, z.2)
 
     -- The events that follow lead on from the rows that the first ones leave.

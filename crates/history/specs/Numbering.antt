@@ -77,7 +77,7 @@ module _ (O : Object) where
   shaped_last k (suc l) e f empty m g n = not_some n
   shaped_last k (suc l) e f (in_flight h) m g n = not_some n
   shaped_last zero (suc l) e f (completed_first {e = x} h s) m g n = let q : x ≡ e = cc in not_some (sym (ap (λ (y : Entry O). y.ret) q ∙ g) ∙ h)
-  shaped_last (suc k) (suc l) e f (completed_first h s) m g n = let z = shaped_last k l e f s m g n in omega arith
+  shaped_last (suc k) (suc l) e f (completed_first {e = x} {q = q} {r = r} h s) m g n = let z = shaped_last {r = r} k l e f s m g n in omega arith
 
   -- Of rows in shape, a thread's operation in flight stands after all its others.
   pub in_flight_last : (rows : Rows O) → AllShaped O rows → (s : O.State) (p : Order O) → LegalOrder O rows s p

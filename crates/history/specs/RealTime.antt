@@ -24,7 +24,7 @@ module _ (O : Object) where
       let x : a ≡ invoked u o = cc in
       let y : b ≡ returned u r = cc in
       let z : H ≡ P ++ Q = cc in
-      let i = ahead w P Q t z in
+      let i = ahead {H = H} w P Q t z in
       rw (x, y) (omega arith)
 
   formed_ahead : {H : Events O} → WellFormed O H → (P Q : Events O) (t : ℕ) → H ≡ P ++ Q → returns O t P ≤ invocations O t P
@@ -41,11 +41,11 @@ module _ (O : Object) where
   balanced w [] B u o h t = refl
   balanced rest (a ∷ A) B u o h t = absurd (let z : ◌≡◌ {A = ℕ} 0 1 = cc in omega arith)
   balanced (step k w) (a ∷ []) B u o h t = absurd (let z : ◌≡◌ {A = ℕ} 0 1 = cc in omega arith)
-  balanced (step {t = v} {o = p} {r = r} {S = S} k w) (a ∷ b ∷ A) B u o h t =
+  balanced {s = s} (step {t = v} {o = p} {r = r} {S = S} k w) (a ∷ (b ∷ A)) B u o h t =
       let x : a ≡ invoked v p = cc in
       let y : b ≡ returned v r = cc in
       let z : S ≡ A ++ (invoked u o ∷ B) = cc in
-      let i = balanced w A B u o z t in
+      let i = balanced {s = O.after s p} w A B u o z t in
       rw (x, y) (omega arith)
 
   module _ {H : Events O} {rows : Rows O} (w : Held O H rows) (n : Tells O H rows) where
