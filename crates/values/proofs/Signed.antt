@@ -13,7 +13,7 @@ use Rattle.values.specs.Value.{signed}
 
 -- the number of the bits of a value is the value
 pub told : (z : ℤ) (n : ℕ) → mag z < 2 ^ hbits w32 → z ≡ signed n → to_z w32 (of_z w32 z) ≡ signed n
-told z n h e = to_z-of_z (record { sfits = h }) ∙ e
+told z n h e = to_z-of_z {w = w32} (record { sfits = h }) ∙ e
 
 -- half of a number
 

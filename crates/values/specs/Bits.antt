@@ -9,7 +9,7 @@ use Rattle.values.specs.SameValues.{values}
 
 -- the number of the bits of a number is the number
 pub back : (z : ℤ) → mag z < 2 ^ hbits w32 → to_z w32 (of_z w32 z) ≡ z
-back z h = to_z-of_z (record { sfits = h })
+back z h = to_z-of_z {w = w32} (record { sfits = h })
 
 eq_z_ne : (a b : ℤ) → eq_z a b ≡ false → a ≡ b → ⊥
 eq_z_ne a b f q =
