@@ -1,0 +1,16 @@
+-- The numbers of operations are tested one by one, and none is left over.
+use borrow.Author.Tests.{eq-eqb, ne_eqb}
+use Rattle.objects.specs.Register.{register_op_form}
+use Rattle.objects.proofs.register.op_form.Goals as goal
+
+pub returns-then-number-eq0 : goal.returns-then-number-eq0
+unfolding register_op_form
+returns-then-number-eq0 c = simp (eq-eqb _ _ c.if-number-eq0.true)
+
+pub returns-then-number-eq1 : goal.returns-then-number-eq1
+unfolding register_op_form
+returns-then-number-eq1 c = simp (eq-eqb _ _ c.if-number-eq1.true, ne_eqb _ _ c.if-number-eq0.false)
+
+pub returns : goal.returns
+unfolding register_op_form
+returns c = simp (ne_eqb _ _ c.if-number-eq1.false, ne_eqb _ _ c.if-number-eq0.false)

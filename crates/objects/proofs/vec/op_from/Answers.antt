@@ -1,0 +1,18 @@
+-- The number tells the operation, and its word the value.
+use borrow.Author.Tests.{eq-eqb, ne_eqb}
+use borrow.Author.Rules.{rules}
+use Rattle.objects.specs.Stack.{stack_op_from}
+use Rattle.values.specs.Bits.{back}
+use Rattle.objects.proofs.vec.op_from.Goals as goal
+
+pub returns-then-coded-eq0 : goal.returns-then-coded-eq0
+unfolding stack_op_from
+returns-then-coded-eq0 c = simp (back c.signed_of-v.result c.signed_of-v.type_inv) (simp (eq-eqb _ _ c.if-coded-eq0.true, c.signed_of-v.ensures))
+
+pub returns-then-coded-eq1 : goal.returns-then-coded-eq1
+unfolding stack_op_from
+returns-then-coded-eq1 c = simp (eq-eqb _ _ c.if-coded-eq1.true, ne_eqb _ _ c.if-coded-eq0.false)
+
+pub returns : goal.returns
+unfolding stack_op_from
+returns c = simp (ne_eqb _ _ c.if-coded-eq1.false, ne_eqb _ _ c.if-coded-eq0.false)

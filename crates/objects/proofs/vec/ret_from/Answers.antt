@@ -1,0 +1,17 @@
+-- The number tells the return, and the rest what it carries.
+use borrow.Author.Tests.{eq-eqb, ne_eqb}
+use borrow.Author.Rules.{rules}
+use Rattle.objects.specs.Stack.{stack_ret_from}
+use Rattle.objects.proofs.vec.ret_from.Goals as goal
+
+pub returns-then-coded-eq0 : goal.returns-then-coded-eq0
+unfolding stack_ret_from
+returns-then-coded-eq0 c = simp (eq-eqb _ _ c.if-coded-eq0.true)
+
+pub returns-then-coded-eq1 : goal.returns-then-coded-eq1
+unfolding stack_ret_from
+returns-then-coded-eq1 c = simp (eq-eqb _ _ c.if-coded-eq1.true, ne_eqb _ _ c.if-coded-eq0.false, ← c.maybe_from-m.ensures)
+
+pub returns : goal.returns
+unfolding stack_ret_from
+returns c = simp (ne_eqb _ _ c.if-coded-eq1.false, ne_eqb _ _ c.if-coded-eq0.false)
