@@ -1,26 +1,34 @@
 -- Laws that the proofs of several functions cite.
-use Prim.Native.Nat.{ℕ}
-use mathlib.Core.Path.{◌≡◌, refl, sym, ◌∙◌, subst}
-use mathlib.Core.List.{List}
-use mathlib.Core.Bool.{false}
-use borrow.Author.Tests.{ne_eqb}
-use types.Run.{OneOf}
-use denote.Enum.Declared.{tag_of}
+use Rattle.std.proofs.Common.{◌≡◌, refl, sym, arith, ne_eqb}
+use Rattle.std.specs.Prelude.{false}
+use Rattle.objects.specs.declared.register.RegisterRet.{RegisterRet}
+use Rattle.objects.specs.declared.write_once_register.WORegisterRet.{WORegisterRet}
+use Rattle.objects.specs.declared.vec.VecRet.{VecRet}
 use Rattle.families.specs.Family.{ret_family, family_number}
 use Rattle.families.specs.Families.{same_ret}
 use Rattle.families.specs.declared.Ret.{Ret}
 use Rattle.families.specs.declared.Ret.TheVariants.{Register, WORegister, Vec}
-use Rattle.families.specs.contracts.Ret.{the_type}
 
 -- a return in an arm for all other families is not the same as one of that family
 
-tag_family : (r : Ret) → tag_of the_type r ≡ family_number (ret_family r)
-unfolding family_number ret_family
-tag_family (Register q) = refl
-tag_family (WORegister q) = refl
-tag_family (Vec q) = refl
-
-pub other_family : (a r : Ret) (ks : List ℕ) → OneOf ks (tag_of the_type r) → (OneOf ks (family_number (ret_family a)) → ⊥) → false ≡ same_ret a r
+pub other_family : (a r : Ret) → (family_number (ret_family a) ≡ family_number (ret_family r) → ⊥) → false ≡ same_ret a r
 unfolding same_ret
-other_family a r ks h none =
-    rw (ne_eqb (family_number (ret_family a)) (family_number (ret_family r)) (λ e. none (subst (OneOf ks) (tag_family r ∙ sym e) h)))
+other_family a r none = rw (ne_eqb (family_number (ret_family a)) (family_number (ret_family r)) none)
+
+pub no_register : (r : Ret) → ((q : RegisterRet) → r ≡ Register q → ⊥) → 0 ≡ family_number (ret_family r) → ⊥
+unfolding family_number ret_family
+no_register (Register q) n e = n q refl
+no_register (WORegister q) n e = omega arith
+no_register (Vec q) n e = omega arith
+
+pub no_write_once : (r : Ret) → ((q : WORegisterRet) → r ≡ WORegister q → ⊥) → 1 ≡ family_number (ret_family r) → ⊥
+unfolding family_number ret_family
+no_write_once (Register q) n e = omega arith
+no_write_once (WORegister q) n e = n q refl
+no_write_once (Vec q) n e = omega arith
+
+pub no_stack : (r : Ret) → ((q : VecRet) → r ≡ Vec q → ⊥) → 2 ≡ family_number (ret_family r) → ⊥
+unfolding family_number ret_family
+no_stack (Register q) n e = omega arith
+no_stack (WORegister q) n e = omega arith
+no_stack (Vec q) n e = n q refl

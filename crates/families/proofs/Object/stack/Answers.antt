@@ -1,0 +1,8 @@
+-- The object is built as its definition builds it.
+use mathlib.Core.Path.{refl}
+use Rattle.families.specs.Objects.{new_stack}
+use Rattle.families.proofs.Object.stack.Goals as goal
+
+pub returns : goal.returns
+unfolding new_stack
+returns c = refl
