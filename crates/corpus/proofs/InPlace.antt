@@ -14,7 +14,7 @@ use Rattle.values.specs.declared.refusal.Check.TheVariants.{Clear}
 use Rattle.families.specs.declared.Object.{Object}
 use Rattle.families.specs.declared.event.Event.{Event as CEvent}
 use Rattle.families.specs.declared.event.Event.TheVariants.{Invoked, Returned}
-use Rattle.stepping.specs.declared.history.History.{History}
+use Rattle.stepping.specs.declared.histories.History.{History}
 use Rattle.stepping.specs.declared.recorded.Recorded.{Recorded}
 use Rattle.recording.specs.declared.linearizability.LinearizabilityTester.{LinearizabilityTester}
 use Rattle.recording.specs.declared.linearizability.After.{After}

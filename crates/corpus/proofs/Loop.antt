@@ -7,7 +7,7 @@ use lib.ListN.{length, drop, get_or, set, replicate}
 use Rattle.values.specs.Sizes.{threads, capacity}
 use Rattle.families.specs.declared.Kind.{Kind}
 use Rattle.families.specs.declared.event.Event.{Event as CEvent}
-use Rattle.stepping.specs.declared.history.History.{History}
+use Rattle.stepping.specs.declared.histories.History.{History}
 use Rattle.recording.specs.declared.linearizability.LinearizabilityTester.{LinearizabilityTester}
 use Rattle.stepping.specs.declared.step.Change.{Change}
 use Rattle.stepping.specs.Record.{operation_at}

@@ -13,7 +13,7 @@ use crate::turns::{Turn, turn_at};
 use families::Kind;
 use recording::linearizability::LinearizabilityTester;
 use shape::notes::{NOTES, note};
-use stepping::history::History;
+use stepping::histories::History;
 use stepping::step::{change_of, thread_of};
 use values::sizes::THREADS;
 

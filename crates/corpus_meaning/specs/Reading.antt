@@ -3,7 +3,7 @@ use Rattle.std.specs.Prelude.{ℕ, ◌≡◌, Bool, true, false, List, [], ◌�
 use Rattle.families.specs.States.{state_of}
 use Rattle.families.specs.declared.Kind.{Kind}
 use Rattle.families.specs.declared.Kind.TheVariants.{Register}
-use Rattle.stepping.specs.declared.history.Operation.{Operation}
+use Rattle.stepping.specs.declared.histories.Operation.{Operation}
 use Rattle.stepping.specs.Record.{held}
 use Rattle.recording_meaning.specs.Models.{Model}
 use Rattle.corpus.specs.Load.{Load, load_of}

@@ -14,7 +14,7 @@ use Rattle.objects.specs.declared.write_once_register.WORegisterOp.TheVariants.{
 use Rattle.objects.specs.declared.write_once_register.WORegisterRet.TheVariants.{WriteOk as OnceOk, WriteFail as OnceFail, ReadOk as OnceReadOk}
 use Rattle.objects.specs.declared.vec.VecOp.TheVariants.{Push, Pop, Len}
 use Rattle.objects.specs.declared.vec.VecRet.TheVariants.{PushOk, PopOk, LenOk}
-use Rattle.stepping.specs.declared.history.Operation.{Operation}
+use Rattle.stepping.specs.declared.histories.Operation.{Operation}
 use Rattle.stepping.specs.Record.{operation}
 use Rattle.corpus_meaning.specs.Reading.{SmallFile, starts, refuses, reads, stops, breaks}
 

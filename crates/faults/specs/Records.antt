@@ -10,7 +10,7 @@ use Rattle.families.specs.declared.Ret.TheVariants.{Register as RRegister}
 use Rattle.families.specs.declared.placing.Outcome.TheVariants.{Pending, Returned}
 use Rattle.objects.specs.declared.register.RegisterOp.TheVariants.{Read}
 use Rattle.objects.specs.declared.register.RegisterRet.TheVariants.{ReadOk}
-use Rattle.stepping.specs.declared.history.Operation.{Operation}
+use Rattle.stepping.specs.declared.histories.Operation.{Operation}
 use Rattle.recording.specs.declared.linearizability.LinearizabilityTester.{LinearizabilityTester}
 use Rattle.stepping.specs.Record.{operation, blank_operation}
 use Rattle.recording.specs.Testers.{linearizability}

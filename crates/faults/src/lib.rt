@@ -13,7 +13,7 @@ use objects::register::{RegisterOp, RegisterRet};
 use recording::linearizability::LinearizabilityTester;
 use recording::sequential_consistency::SequentialConsistencyTester;
 use shape::notes::NOTES;
-use stepping::history::{History, Operation};
+use stepping::histories::{History, Operation};
 use values::sizes::{OPERATIONS, ROOM, THREADS};
 
 // What stands in a place that was never taken.

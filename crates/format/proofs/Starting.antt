@@ -17,7 +17,7 @@ use Rattle.format.specs.Fields.{from_give, then_got, then_refused}
 
 -- the number of the bits of a value is the value
 pub told : (z : ℤ) (n : ℕ) → mag z < 2 ^ hbits w32 → z ≡ signed n → to_z w32 (of_z w32 z) ≡ signed n
-told z n h e = to_z-of_z (record { sfits = h }) ∙ e
+told z n h e = to_z-of_z {w = w32} (record { sfits = h }) ∙ e
 
 module _ (s : List ℕ) (count i at : ℕ) (items : List ℤ) where
   module _ (more : i < count) where

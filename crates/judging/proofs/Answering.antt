@@ -9,7 +9,7 @@ use Rattle.theory.specs.Budget.{order, Judged}
 use Rattle.history.specs.Lists.{not_both}
 use Rattle.values.specs.Value.{pick}
 use Rattle.values.specs.Sizes.{capacity}
-use Rattle.stepping.specs.declared.history.History.{History}
+use Rattle.stepping.specs.declared.histories.History.{History}
 use Rattle.recording_meaning.specs.Models.{Model}
 use Rattle.judging.specs.declared.answer.Answer.{Answer}
 use Rattle.judging.specs.declared.answer.Placed.{Placed}

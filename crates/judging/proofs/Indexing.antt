@@ -9,7 +9,7 @@ use native.Mathlib.Numerals.{add-one}
 use native.Mathlib.Omega.{arith}
 use Rattle.history.specs.Lists.{own_or_other, get_d_same}
 use Rattle.values.specs.Sizes.{threads, capacity}
-use Rattle.stepping.specs.declared.history.History.{History}
+use Rattle.stepping.specs.declared.histories.History.{History}
 use Rattle.stepping.specs.Record.{operation_at}
 use Rattle.stepping.specs.Shape.{InShape}
 use Rattle.judging.specs.Places.{places_in, StartedTo, SlottedTo, Indexed, sum_of}

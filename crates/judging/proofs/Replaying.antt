@@ -12,8 +12,8 @@ use Rattle.families.specs.Placing.{held_of, given_of, leaves_of, acted_of}
 use Rattle.families.specs.declared.Ret.{Ret}
 use Rattle.values.specs.declared.held.Held.{Held}
 use Rattle.values.specs.declared.held.Acted.{Acted}
-use Rattle.stepping.specs.declared.history.Operation.{Operation}
-use Rattle.stepping.specs.declared.history.History.{History}
+use Rattle.stepping.specs.declared.histories.Operation.{Operation}
+use Rattle.stepping.specs.declared.histories.History.{History}
 use Rattle.stepping.specs.Record.{operation_at}
 use Rattle.judging.specs.declared.answer.Placed.{Placed}
 use Rattle.judging.specs.Answers.{placed, nobody_there}

@@ -11,7 +11,7 @@ use Rattle.families.specs.Families.{families}
 use Rattle.families.specs.States.{state_of}
 use Rattle.families.specs.Objects.{no_ret}
 use Rattle.families.specs.declared.Ret.{Ret}
-use Rattle.stepping.specs.declared.history.History.{History}
+use Rattle.stepping.specs.declared.histories.History.{History}
 use Rattle.recording_meaning.specs.Reading.{rows_of}
 use Rattle.recording_meaning.specs.Models.{Model}
 use Rattle.judging.specs.declared.answer.Answer.{Answer}

@@ -6,7 +6,7 @@ use Rattle.std.proofs.Common.{◌∙◌, append_assoc, arith}
 use Rattle.std.proofs.Math.ListN.{get_or, take}
 use Rattle.std.proofs.Math.Seq.{take-suc}
 use Rattle.theory.specs.Undoing.{Fine, fine_fits, fine_parts, shown_above}
-use Rattle.stepping.specs.declared.history.History.{History}
+use Rattle.stepping.specs.declared.histories.History.{History}
 use Rattle.judging.specs.declared.answer.Placed.{Placed}
 use Rattle.judging.specs.declared.search.Level.{Level}
 use Rattle.judging.specs.Answers.{placed}

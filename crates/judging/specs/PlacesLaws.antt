@@ -11,7 +11,7 @@ use Rattle.std.proofs.Math.Dec.{ltb}
 use borrow.Author.Tests.{ltb-true, ltb-false, eq-eqb, ne_eqb}
 use native.Mathlib.Omega.{arith}
 use Rattle.values.specs.Value.{pick}
-use Rattle.stepping.specs.declared.history.History.{History}
+use Rattle.stepping.specs.declared.histories.History.{History}
 use Rattle.stepping.specs.Record.{operation_at}
 use Rattle.judging.specs.Places.{places_in}
 

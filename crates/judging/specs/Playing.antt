@@ -3,8 +3,8 @@ use Rattle.std.specs.Prelude.{ℕ, ◌+◌, ◌<◌, List, [], ◌∷◌, length
 use Rattle.values.specs.Sizes.{threads}
 use Rattle.families.specs.Placing.{held_of, given_of, held_after, leaves_of}
 use Rattle.values.specs.declared.held.Held.{Held}
-use Rattle.stepping.specs.declared.history.Operation.{Operation}
-use Rattle.stepping.specs.declared.history.History.{History}
+use Rattle.stepping.specs.declared.histories.Operation.{Operation}
+use Rattle.stepping.specs.declared.histories.History.{History}
 use Rattle.stepping.specs.Record.{operation_at}
 use Rattle.judging.specs.declared.answer.Placed.{Placed}
 use Rattle.judging.specs.Answers.{placed}

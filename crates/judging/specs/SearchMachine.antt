@@ -17,7 +17,7 @@ use Rattle.families.specs.Room.{Room, room_fits}
 use Rattle.families.specs.States.{state_of, placing_answers, placing_right, placing_leaves}
 use Rattle.values.specs.declared.refusal.Check.TheVariants.{Clear}
 use Rattle.families.specs.declared.Ret.{Ret}
-use Rattle.stepping.specs.declared.history.History.{History}
+use Rattle.stepping.specs.declared.histories.History.{History}
 use Rattle.stepping.specs.Record.{operation_at}
 use Rattle.stepping.specs.Shape.{shape_of}
 use Rattle.recording_meaning.specs.Reading.{Sized, return_in, rows_of}

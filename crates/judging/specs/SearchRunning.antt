@@ -19,7 +19,7 @@ use Rattle.families.specs.Families.{families}
 use Rattle.families.specs.Placing.{held_of, fits_of}
 use Rattle.families.specs.States.{state_of, kind_held}
 use Rattle.values.specs.declared.held.Held.{Held}
-use Rattle.stepping.specs.declared.history.History.{History}
+use Rattle.stepping.specs.declared.histories.History.{History}
 use Rattle.stepping.specs.Record.{operation_at}
 use Rattle.stepping.specs.Shape.{shape_of}
 use Rattle.recording_meaning.specs.Reading.{Sized, rows_of}

@@ -3,7 +3,7 @@ use Rattle.std.specs.Prelude.{ℕ, ◌≤◌, ◌≡◌, List, take}
 use Rattle.theory.specs.Budget.{order, no_order, undecided, Judged}
 use Rattle.theory.specs.Undoing.{shown_by}
 use Rattle.values.specs.Sizes.{capacity}
-use Rattle.stepping.specs.declared.history.History.{History}
+use Rattle.stepping.specs.declared.histories.History.{History}
 use Rattle.judging.specs.declared.answer.Verdict.{Verdict}
 use Rattle.judging.specs.declared.answer.Verdict.TheVariants.{Order, NoOrder, Undecided, Invalid}
 use Rattle.judging.specs.declared.search.Stopped.{Stopped}

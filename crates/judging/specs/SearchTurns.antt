@@ -15,7 +15,7 @@ use Rattle.families.specs.Placing.{fits_of, held_after, leaves_of, acted_of, bac
 use Rattle.families.specs.PlacingUndone.{back_acted, leaves_length}
 use Rattle.values.specs.declared.held.Held.{Held}
 use Rattle.values.specs.declared.held.Acted.{Acted}
-use Rattle.stepping.specs.declared.history.History.{History}
+use Rattle.stepping.specs.declared.histories.History.{History}
 use Rattle.stepping.specs.Record.{operation_at}
 use Rattle.recording_meaning.specs.Reading.{return_in, rows_of}
 use Rattle.recording_meaning.specs.Rowing.{rows_many}

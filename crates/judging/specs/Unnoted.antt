@@ -14,8 +14,8 @@ use Rattle.history.specs.Budgets.{judged}
 use Rattle.values.specs.Sizes.{threads}
 use Rattle.families.specs.Families.{families}
 use Rattle.families.specs.States.{state_of}
-use Rattle.stepping.specs.declared.history.Operation.{Operation}
-use Rattle.stepping.specs.declared.history.History.{History}
+use Rattle.stepping.specs.declared.histories.Operation.{Operation}
+use Rattle.stepping.specs.declared.histories.History.{History}
 use Rattle.stepping.specs.Record.{held}
 use Rattle.recording_meaning.specs.Reading.{entry_of, entries, of_thread, by_thread, rows_of, notes_of, no_notes}
 use Rattle.judging.specs.Answers.{judged_of}

@@ -7,7 +7,7 @@ ghost use Rattle.recording_meaning.specs.Reading.{return_in};
 ghost use Rattle.judging.specs.Places.{Indexed, sum_of};
 
 use families::placing::Outcome;
-use stepping::history::History;
+use stepping::histories::History;
 use values::sizes::{OPERATIONS, THREADS};
 
 // A place for each thread and each of its operations.

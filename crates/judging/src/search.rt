@@ -14,7 +14,7 @@ use crate::answer::{Answer, Placed, Verdict, nobody, without_order};
 use crate::index::{SLOTS, completed, counted, index_of};
 use families::placing::{act, fits, given, held_of, take_back};
 use shape::notes::NOTES;
-use stepping::history::History;
+use stepping::histories::History;
 use values::held::{Held, Undo};
 use values::sizes::{OPERATIONS, THREADS};
 

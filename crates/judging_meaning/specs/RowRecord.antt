@@ -8,8 +8,8 @@ use Rattle.history.specs.Rows.{Entry, Is}
 use Rattle.history.specs.Lists.{not_some, get_d_below}
 use Rattle.values.specs.Sizes.{threads}
 use Rattle.families.specs.Families.{families}
-use Rattle.stepping.specs.declared.history.Operation.{Operation}
-use Rattle.stepping.specs.declared.history.History.{History}
+use Rattle.stepping.specs.declared.histories.Operation.{Operation}
+use Rattle.stepping.specs.declared.histories.History.{History}
 use Rattle.stepping.specs.Record.{blank_operation, held, operation_at}
 use Rattle.stepping.specs.Shape.{InShape}
 use Rattle.recording_meaning.specs.Reading.{entry_of, entries, of_thread, rows_of}

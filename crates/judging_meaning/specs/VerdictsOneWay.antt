@@ -19,7 +19,7 @@ use Rattle.families.specs.Families.{State, families}
 use Rattle.families.specs.Same.{lawful}
 use Rattle.semantics.specs.Invoking.{holds}
 use Rattle.families.specs.declared.Object.{Object}
-use Rattle.stepping.specs.declared.history.History.{History}
+use Rattle.stepping.specs.declared.histories.History.{History}
 use Rattle.stepping.specs.EventSteps.{begun_of}
 use Rattle.recording_meaning.specs.Models.{Model, tester_rows, sequential_model, linearizability_model}
 use Rattle.recording_meaning.specs.Lawful.{Lawful, sequential_lawful, linearizability_lawful}

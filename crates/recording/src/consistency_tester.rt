@@ -6,7 +6,7 @@ ghost use Rattle.stepping.specs.OneStep.{event_of};
 
 use families::event::Event;
 use shape::look_at;
-use stepping::history::History;
+use stepping::histories::History;
 use stepping::recorded::is_taken;
 use stepping::refusal::valid_after;
 use stepping::step::{Step, change_of, comes_to, place_for, thread_of};

@@ -7,7 +7,7 @@ use families::event::Event;
 use families::{Object, Op, Ret};
 use shape::look_at;
 use shape::notes::{NOTES, note, noted};
-use stepping::history::{History, begin};
+use stepping::histories::{History, begin};
 use stepping::recorded::{Made, Recorded, is_taken};
 
 // `notes` has at `i * THREADS + u` how many operations of thread u had completed when operation i was

@@ -7,7 +7,7 @@ use crate::consistency_tester;
 use families::event::Event;
 use families::{Object, Op, Ret};
 use shape::look_at;
-use stepping::history::{History, begin};
+use stepping::histories::{History, begin};
 use stepping::recorded::{Made, Recorded, is_taken};
 
 #[derive(Clone, Copy)]

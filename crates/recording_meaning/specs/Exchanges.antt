@@ -8,7 +8,7 @@ use Rattle.families.specs.declared.Kind.{Kind}
 use Rattle.families.specs.declared.Op.{Op}
 use Rattle.families.specs.declared.Ret.{Ret}
 use Rattle.families.specs.declared.placing.Outcome.TheVariants.{Pending, Returned}
-use Rattle.stepping.specs.declared.history.Operation.{Operation}
+use Rattle.stepping.specs.declared.histories.Operation.{Operation}
 use Rattle.stepping.specs.Record.{operation, is_pending, flying_by}
 use Rattle.stepping.specs.Shape.{done_by, count_done, operation_fits, operations_fit, none_of, flying_last}
 use Rattle.recording_meaning.specs.Held.{flies}

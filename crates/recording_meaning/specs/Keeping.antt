@@ -17,8 +17,8 @@ use Rattle.families.specs.declared.Op.{Op}
 use Rattle.families.specs.declared.Ret.{Ret}
 use Rattle.values.specs.declared.refusal.Check.TheVariants.{Clear}
 use Rattle.families.specs.declared.placing.Outcome.TheVariants.{Pending, Returned}
-use Rattle.stepping.specs.declared.history.Operation.{Operation}
-use Rattle.stepping.specs.declared.history.History.{History}
+use Rattle.stepping.specs.declared.histories.Operation.{Operation}
+use Rattle.stepping.specs.declared.histories.History.{History}
 use Rattle.stepping.specs.Record.{operation, held, is_pending, invalidated, extended, completed}
 use Rattle.stepping.specs.Shape.{kind_of, count_done, outcome_fits, operation_fits, operations_fit, flying_last}
 use Rattle.recording_meaning.specs.Reading.{Sized}

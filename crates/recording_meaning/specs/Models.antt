@@ -7,7 +7,7 @@ use Rattle.families.specs.Families.{families}
 use Rattle.families.specs.declared.Object.{Object}
 use Rattle.families.specs.declared.Op.{Op}
 use Rattle.families.specs.declared.Ret.{Ret}
-use Rattle.stepping.specs.declared.history.History.{History}
+use Rattle.stepping.specs.declared.histories.History.{History}
 use Rattle.stepping.specs.declared.recorded.Made.{Made}
 use Rattle.stepping.specs.declared.recorded.Recorded.{Recorded}
 use Rattle.recording.specs.declared.linearizability.LinearizabilityTester.{LinearizabilityTester}

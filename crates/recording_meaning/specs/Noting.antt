@@ -13,7 +13,7 @@ use Rattle.history.specs.Lists.{own_or_other}
 use Rattle.history.specs.Recorder.{completed as completed_of, notes as history_notes}
 use Rattle.values.specs.Sizes.{threads, capacity}
 use Rattle.families.specs.Families.{families}
-use Rattle.stepping.specs.declared.history.History.{History}
+use Rattle.stepping.specs.declared.histories.History.{History}
 use Rattle.stepping.specs.Shape.{note_at, notable}
 use Rattle.shape.specs.Notes.{notes_with}
 use Rattle.recording_meaning.specs.Reading.{notes_of, rows_of}

@@ -11,7 +11,7 @@ use Rattle.families.specs.declared.Op.{Op}
 use Rattle.families.specs.declared.Ret.{Ret}
 use Rattle.values.specs.declared.refusal.Check.{Check}
 use Rattle.values.specs.declared.refusal.Check.TheVariants.{Clear, Refused as CRefused}
-use Rattle.stepping.specs.declared.history.History.{History}
+use Rattle.stepping.specs.declared.histories.History.{History}
 use Rattle.stepping.specs.declared.recorded.Made.{Made}
 use Rattle.stepping.specs.declared.recorded.Made.TheVariants.{New, Refused as MRefused}
 use Rattle.stepping.specs.declared.recorded.Recorded.{Recorded}

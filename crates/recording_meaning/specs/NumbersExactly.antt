@@ -11,8 +11,8 @@ use Rattle.families.specs.declared.Op.{Op}
 use Rattle.families.specs.declared.Ret.{Ret}
 use Rattle.values.specs.declared.refusal.Check.{Check}
 use Rattle.values.specs.declared.refusal.Check.TheVariants.{Clear, Refused as CRefused}
-use Rattle.stepping.specs.declared.history.Flying.{Flying}
-use Rattle.stepping.specs.declared.history.Flying.TheVariants.{At, Nothing}
+use Rattle.stepping.specs.declared.histories.Flying.{Flying}
+use Rattle.stepping.specs.declared.histories.Flying.TheVariants.{At, Nothing}
 use Rattle.stepping.specs.declared.recorded.Made.{Made}
 use Rattle.stepping.specs.declared.recorded.Made.TheVariants.{New, Refused as MRefused}
 use Rattle.stepping.specs.declared.recorded.Recorded.{Recorded}

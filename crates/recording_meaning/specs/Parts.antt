@@ -14,8 +14,8 @@ use Rattle.families.specs.Refusals.{op_belongs, start_check}
 use Rattle.families.specs.Room.{clear_yes}
 use Rattle.families.specs.declared.Kind.{Kind}
 use Rattle.values.specs.declared.refusal.Check.TheVariants.{Clear}
-use Rattle.stepping.specs.declared.history.Operation.{Operation}
-use Rattle.stepping.specs.declared.history.History.{History}
+use Rattle.stepping.specs.declared.histories.Operation.{Operation}
+use Rattle.stepping.specs.declared.histories.History.{History}
 use Rattle.stepping.specs.Record.{held}
 use Rattle.stepping.specs.Shape.{kind_of, count_done, all_below, outcome_fits, operation_fits, operations_fit, flying_last, counts_right, shape_of}
 

@@ -14,8 +14,8 @@ use Rattle.families.specs.declared.Op.{Op}
 use Rattle.families.specs.declared.Ret.{Ret}
 use Rattle.families.specs.declared.placing.Outcome.{Outcome}
 use Rattle.families.specs.declared.placing.Outcome.TheVariants.{Pending, Returned}
-use Rattle.stepping.specs.declared.history.Operation.{Operation}
-use Rattle.stepping.specs.declared.history.History.{History}
+use Rattle.stepping.specs.declared.histories.Operation.{Operation}
+use Rattle.stepping.specs.declared.histories.History.{History}
 use Rattle.stepping.specs.Record.{operation, held, is_pending, flying_by, invalidated, extended, completed}
 use Rattle.recording_meaning.specs.Reading.{Sized, entry_of, return_in, entries, of_thread, by_thread, rows_of}
 use Rattle.recording_meaning.specs.Threads.{rows_length, rows_at, rows_add, rows_close}

@@ -12,8 +12,8 @@ use Rattle.families.specs.declared.Ret.{Ret}
 use Rattle.values.specs.declared.refusal.Check.TheVariants.{Clear}
 use Rattle.families.specs.declared.placing.Outcome.{Outcome}
 use Rattle.families.specs.declared.placing.Outcome.TheVariants.{Pending, Returned}
-use Rattle.stepping.specs.declared.history.Operation.{Operation}
-use Rattle.stepping.specs.declared.history.History.{History}
+use Rattle.stepping.specs.declared.histories.Operation.{Operation}
+use Rattle.stepping.specs.declared.histories.History.{History}
 use Rattle.recording.specs.declared.linearizability.LinearizabilityTester.{LinearizabilityTester}
 use Rattle.stepping.specs.Record.{blank_operation, held, operation_at, is_pending}
 use Rattle.stepping.specs.Shape.{kind_of, InShape, NotesInShape, note_at, notable, outcome_fits, operation_fits, operations_fit, none_of, flying_last, shape_of}

@@ -16,8 +16,8 @@ use Rattle.families.specs.Families.{families}
 use Rattle.families.specs.declared.Kind.{Kind}
 use Rattle.families.specs.declared.placing.Outcome.{Outcome}
 use Rattle.families.specs.declared.placing.Outcome.TheVariants.{Pending, Returned}
-use Rattle.stepping.specs.declared.history.Operation.{Operation}
-use Rattle.stepping.specs.declared.history.History.{History}
+use Rattle.stepping.specs.declared.histories.Operation.{Operation}
+use Rattle.stepping.specs.declared.histories.History.{History}
 use Rattle.stepping.specs.Record.{held, is_pending}
 use Rattle.stepping.specs.Shape.{kind_of, done_by, count_done, operation_fits, operations_fit, none_of, flying_last}
 use Rattle.recording_meaning.specs.Reading.{Sized, entry_of, return_in, entries, of_thread, by_thread, rows_of}

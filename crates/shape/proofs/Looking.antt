@@ -14,8 +14,8 @@ use Rattle.families.specs.Refusals.{op_belongs, start_check}
 use Rattle.families.specs.declared.Kind.{Kind}
 use Rattle.families.specs.declared.placing.Outcome.{Outcome}
 use Rattle.families.specs.declared.placing.Outcome.TheVariants.{Pending, Returned}
-use Rattle.stepping.specs.declared.history.Operation.{Operation}
-use Rattle.stepping.specs.declared.history.History.{History}
+use Rattle.stepping.specs.declared.histories.Operation.{Operation}
+use Rattle.stepping.specs.declared.histories.History.{History}
 use Rattle.shape.specs.declared.Look.{Look}
 use Rattle.stepping.specs.Record.{blank_operation, held, operation_at, find_flying}
 use Rattle.stepping.specs.Shape.{kind_of, outcome_fits, operation_fits, shape_of, shaped_with}

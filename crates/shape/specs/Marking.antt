@@ -4,9 +4,9 @@ use Rattle.std.proofs.Common.{sym, ap, ◌∙◌, arith, eqb-true, ne_eqb}
 use Rattle.std.proofs.lemmas.Bool.{eqb-false}
 use Rattle.values.specs.Value.{pick}
 use Rattle.values.specs.Sizes.{threads}
-use Rattle.stepping.specs.declared.history.History.{History}
-use Rattle.stepping.specs.declared.history.Flying.{Flying}
-use Rattle.stepping.specs.declared.history.Flying.TheVariants.{At, Nothing}
+use Rattle.stepping.specs.declared.histories.History.{History}
+use Rattle.stepping.specs.declared.histories.Flying.{Flying}
+use Rattle.stepping.specs.declared.histories.Flying.TheVariants.{At, Nothing}
 use Rattle.stepping.specs.Record.{find_flying}
 use Rattle.stepping.specs.StepChecks.{Known, place_of}
 use Rattle.stepping.specs.RecordLaws.{never}

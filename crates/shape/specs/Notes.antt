@@ -2,7 +2,7 @@
 use Rattle.std.specs.Prelude.{ℕ, zero, suc, ◌+◌, ◌*◌, Bool, false, List, get_or, set, leb}
 use Rattle.values.specs.Value.{pick}
 use Rattle.values.specs.Sizes.{threads, capacity}
-use Rattle.stepping.specs.declared.history.History.{History}
+use Rattle.stepping.specs.declared.histories.History.{History}
 use Rattle.stepping.specs.Record.{held}
 use Rattle.stepping.specs.Shape.{notable, notes_fit_from}
 

@@ -5,7 +5,7 @@ use Rattle.std.proofs.Common.{sym, ◌∙◌, add-one, le-leb}
 use Rattle.std.proofs.lemmas.Bool.{lt-leb}
 use Rattle.values.specs.Value.{pick}
 use Rattle.values.specs.Sizes.{threads, capacity}
-use Rattle.stepping.specs.declared.history.History.{History}
+use Rattle.stepping.specs.declared.histories.History.{History}
 use Rattle.stepping.specs.Record.{blank_operation, held, operation_at}
 use Rattle.stepping.specs.Shape.{notable, notes_fit, notes_fit_from}
 use Rattle.stepping.specs.RecordLaws.{held_cons, held_end}

@@ -7,10 +7,10 @@ use Rattle.families.specs.Refusals.{start_check}
 use Rattle.families.specs.declared.Kind.{Kind}
 use Rattle.families.specs.declared.placing.Outcome.{Outcome}
 use Rattle.families.specs.declared.placing.Outcome.TheVariants.{Pending, Returned}
-use Rattle.stepping.specs.declared.history.Operation.{Operation}
-use Rattle.stepping.specs.declared.history.History.{History}
-use Rattle.stepping.specs.declared.history.Flying.{Flying}
-use Rattle.stepping.specs.declared.history.Flying.TheVariants.{At, Nothing}
+use Rattle.stepping.specs.declared.histories.Operation.{Operation}
+use Rattle.stepping.specs.declared.histories.History.{History}
+use Rattle.stepping.specs.declared.histories.Flying.{Flying}
+use Rattle.stepping.specs.declared.histories.Flying.TheVariants.{At, Nothing}
 use Rattle.stepping.specs.Record.{find_flying}
 use Rattle.stepping.specs.Shape.{all_below, operation_fits}
 use Rattle.shape.specs.declared.Look.{Look}

@@ -11,7 +11,7 @@ ghost use Rattle.shape.specs.Pass.{look, look_of, sizes_fit, counts_in, left_aft
 use families::Kind;
 use families::placing::Outcome;
 use families::refusal::{check_start, op_belongs, ret_belongs};
-use stepping::history::{History, Operation};
+use stepping::histories::{History, Operation};
 use values::refusal::is_clear;
 use values::sizes::{OPERATIONS, THREADS};
 

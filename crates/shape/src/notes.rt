@@ -4,7 +4,7 @@ ghost use Rattle.values.specs.Sizes.{capacity};
 ghost use Rattle.stepping.specs.Shape.{notable, notes_fit};
 ghost use Rattle.shape.specs.Notes.{notes_in, noted_at};
 
-use stepping::history::History;
+use stepping::histories::History;
 use values::sizes::{OPERATIONS, THREADS};
 
 // A note for each operation and thread.

@@ -10,16 +10,16 @@ use Rattle.families.specs.declared.Op.{Op}
 use Rattle.families.specs.declared.Ret.{Ret}
 use Rattle.values.specs.declared.refusal.Check.{Check}
 use Rattle.values.specs.declared.refusal.Check.TheVariants.{Clear, Refused as CRefused}
-use Rattle.stepping.specs.declared.history.History.{History}
-use Rattle.stepping.specs.declared.history.Flying.{Flying}
-use Rattle.stepping.specs.declared.history.Flying.TheVariants.{At, Nothing}
+use Rattle.stepping.specs.declared.histories.History.{History}
+use Rattle.stepping.specs.declared.histories.Flying.{Flying}
+use Rattle.stepping.specs.declared.histories.Flying.TheVariants.{At, Nothing}
 use Rattle.stepping.specs.declared.recorded.Recorded.{Recorded}
 use Rattle.stepping.specs.declared.recorded.Recorded.TheVariants.{Taken, Refused}
 use Rattle.stepping.specs.declared.recorded.Reason.{Reason}
 use Rattle.stepping.specs.declared.recorded.Reason.TheVariants.{AlreadyInvalid, NoSuchThread, NotOwn, InFlight, NothingInFlight, Full, OutOfShape}
 use Rattle.stepping.specs.declared.recorded.Made.{Made}
 use Rattle.stepping.specs.declared.recorded.Made.TheVariants.{New, Refused as MRefused}
-use Rattle.stepping.specs.declared.history.Begun.{Begun}
+use Rattle.stepping.specs.declared.histories.Begun.{Begun}
 use Rattle.stepping.specs.declared.step.Step.{Step}
 use Rattle.stepping.specs.Record.{fresh, find_flying, invalidated, extended, completed}
 use Rattle.stepping.specs.Shape.{kind_of}

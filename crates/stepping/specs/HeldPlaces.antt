@@ -8,10 +8,10 @@ use Rattle.values.specs.Value.{pick}
 use Rattle.values.specs.Sizes.{threads, capacity}
 use Rattle.values.specs.Checks.{is_clear}
 use Rattle.families.specs.Refusals.{start_check}
-use Rattle.stepping.specs.declared.history.Operation.{Operation}
-use Rattle.stepping.specs.declared.history.History.{History}
-use Rattle.stepping.specs.declared.history.Flying.{Flying}
-use Rattle.stepping.specs.declared.history.Flying.TheVariants.{At, Nothing}
+use Rattle.stepping.specs.declared.histories.Operation.{Operation}
+use Rattle.stepping.specs.declared.histories.History.{History}
+use Rattle.stepping.specs.declared.histories.Flying.{Flying}
+use Rattle.stepping.specs.declared.histories.Flying.TheVariants.{At, Nothing}
 use Rattle.stepping.specs.Record.{held, flying_by, flying_from, find_flying}
 use Rattle.stepping.specs.Shape.{kind_of, done_by, count_done, operations_fit, flying_last, counts_right, shape_of, shaped_with}
 use Rattle.values.specs.SameValues.{both}

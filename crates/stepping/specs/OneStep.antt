@@ -10,8 +10,8 @@ use Rattle.families.specs.declared.Ret.{Ret}
 use Rattle.families.specs.declared.event.Event.{Event}
 use Rattle.families.specs.declared.event.Event.TheVariants.{Invoked, Returned}
 use Rattle.families.specs.declared.placing.Outcome.TheVariants.{Pending, Returned as OReturned}
-use Rattle.stepping.specs.declared.history.Operation.{Operation}
-use Rattle.stepping.specs.declared.history.History.{History}
+use Rattle.stepping.specs.declared.histories.Operation.{Operation}
+use Rattle.stepping.specs.declared.histories.History.{History}
 use Rattle.stepping.specs.declared.recorded.Recorded.{Recorded}
 use Rattle.stepping.specs.declared.step.Step.{Step}
 use Rattle.stepping.specs.declared.step.Change.{Change}

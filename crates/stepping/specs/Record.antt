@@ -8,10 +8,10 @@ use Rattle.families.specs.declared.Op.{Op}
 use Rattle.families.specs.declared.Ret.{Ret}
 use Rattle.families.specs.declared.placing.Outcome.{Outcome}
 use Rattle.families.specs.declared.placing.Outcome.TheVariants.{Pending, Returned}
-use Rattle.stepping.specs.declared.history.Operation.{Operation}
-use Rattle.stepping.specs.declared.history.History.{History}
-use Rattle.stepping.specs.declared.history.Flying.{Flying}
-use Rattle.stepping.specs.declared.history.Flying.TheVariants.{At, Nothing}
+use Rattle.stepping.specs.declared.histories.Operation.{Operation}
+use Rattle.stepping.specs.declared.histories.History.{History}
+use Rattle.stepping.specs.declared.histories.Flying.{Flying}
+use Rattle.stepping.specs.declared.histories.Flying.TheVariants.{At, Nothing}
 
 -- an operation of a thread, in flight or returned
 abbrev pub operation : ℕ → Op → Outcome → Operation

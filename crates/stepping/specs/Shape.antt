@@ -9,8 +9,8 @@ use Rattle.values.specs.declared.refusal.Check.TheVariants.{Clear}
 use Rattle.families.specs.declared.placing.Outcome.{Outcome}
 use Rattle.families.specs.declared.placing.Outcome.TheVariants.{Pending, Returned}
 use Rattle.families.specs.declared.Ret.{Ret}
-use Rattle.stepping.specs.declared.history.Operation.{Operation}
-use Rattle.stepping.specs.declared.history.History.{History}
+use Rattle.stepping.specs.declared.histories.Operation.{Operation}
+use Rattle.stepping.specs.declared.histories.History.{History}
 use Rattle.stepping.specs.Record.{held, operation_at, is_pending}
 
 -- the object that a history starts with, but for its items

@@ -4,9 +4,9 @@ use Rattle.values.specs.Value.{pick}
 use Rattle.values.specs.Sizes.{threads, capacity}
 use Rattle.values.specs.declared.refusal.Check.{Check}
 use Rattle.values.specs.declared.refusal.Check.TheVariants.{Clear, Refused as CRefused}
-use Rattle.stepping.specs.declared.history.History.{History}
-use Rattle.stepping.specs.declared.history.Flying.{Flying}
-use Rattle.stepping.specs.declared.history.Flying.TheVariants.{At, Nothing}
+use Rattle.stepping.specs.declared.histories.History.{History}
+use Rattle.stepping.specs.declared.histories.Flying.{Flying}
+use Rattle.stepping.specs.declared.histories.Flying.TheVariants.{At, Nothing}
 use Rattle.stepping.specs.declared.recorded.Recorded.{Recorded}
 use Rattle.stepping.specs.declared.recorded.Recorded.TheVariants.{Taken, Refused}
 use Rattle.stepping.specs.declared.recorded.Reason.TheVariants.{AlreadyInvalid, NoSuchThread, NotOwn, InFlight, NothingInFlight, Full, OutOfShape}

@@ -2,7 +2,7 @@
 // stores the change in it.
 #![tactic(auto)]
 
-pub mod history;
+pub mod histories;
 pub mod recorded;
 pub mod refusal;
 pub mod step;

@@ -3,7 +3,7 @@ ghost use Rattle.std.specs.Prelude.{◌≡◌};
 ghost use Rattle.stepping.specs.EventSteps.{breaks as breaks_of, valid_after};
 ghost use Rattle.stepping.specs.StepChecks.{place_of, place_in, place_at, checked_of, known_of, in_turn, admit_of, invoke_check, return_check};
 
-use crate::history::Flying;
+use crate::histories::Flying;
 use crate::recorded::{Reason, Recorded, is_taken};
 use values::refusal::Check;
 use values::sizes::{OPERATIONS, THREADS};

@@ -2,7 +2,7 @@
 ghost use Rattle.std.specs.Prelude.{◌≡◌};
 ghost use Rattle.stepping.specs.OneStep.{thread_of, comes_to, place_for, change_of};
 
-use crate::history::{History, Operation};
+use crate::histories::{History, Operation};
 use crate::recorded::Recorded;
 use crate::refusal::{admit, check_invoke, check_return, place_at, place_in};
 use families::Kind;

@@ -16,7 +16,7 @@ use Rattle.history.specs.Space.{met, only_pending, all_placed}
 use Rattle.history.specs.Progress.{met_of, of_met, placed_of, of_placed}
 use Rattle.values.specs.Sizes.{threads}
 use Rattle.families.specs.Families.{families}
-use Rattle.stepping.specs.declared.history.History.{History}
+use Rattle.stepping.specs.declared.histories.History.{History}
 use Rattle.recording_meaning.specs.Reading.{rows_of, notes_of}
 use Rattle.recording_meaning.specs.Rowing.{rows_many}
 use Rattle.recording_meaning.specs.Parts.{below_each, each_below, Parts}

@@ -14,8 +14,8 @@ use Rattle.history.specs.Progress.{next_row}
 use Rattle.values.specs.Value.{pick}
 use Rattle.values.specs.Sizes.{threads, capacity}
 use Rattle.families.specs.Families.{families}
-use Rattle.stepping.specs.declared.history.Operation.{Operation}
-use Rattle.stepping.specs.declared.history.History.{History}
+use Rattle.stepping.specs.declared.histories.Operation.{Operation}
+use Rattle.stepping.specs.declared.histories.History.{History}
 use Rattle.stepping.specs.Record.{blank_operation, held, operation_at}
 use Rattle.recording_meaning.specs.Reading.{Sized, entry_of, entries, of_thread, rows_of}
 use Rattle.recording_meaning.specs.Rowing.{rows_many, row_is}

@@ -10,8 +10,8 @@ use lib.Seq.{length-take-le}
 use lib.Dec.{eqb}
 use borrow.Author.Tests.{eq-eqb, ne_eqb}
 use Rattle.values.specs.Value.{pick}
-use Rattle.stepping.specs.declared.history.Operation.{Operation}
-use Rattle.stepping.specs.declared.history.History.{History}
+use Rattle.stepping.specs.declared.histories.Operation.{Operation}
+use Rattle.stepping.specs.declared.histories.History.{History}
 use Rattle.stepping.specs.Record.{blank_operation, held, operation_at}
 use Rattle.stepping.specs.RecordLaws.{held_cons, held_end}
 use Rattle.witness.specs.WordsPlayed.{place_of}

@@ -28,8 +28,8 @@ use Rattle.values.specs.declared.refusal.Check.TheVariants.{Clear}
 use Rattle.semantics.specs.Invoking.{holds}
 use Rattle.semantics.specs.Roomy.{RoomFor, left_holds, left_full, left_alike, left_roomy}
 use Rattle.families.specs.declared.Ret.{Ret}
-use Rattle.stepping.specs.declared.history.Operation.{Operation}
-use Rattle.stepping.specs.declared.history.History.{History}
+use Rattle.stepping.specs.declared.histories.Operation.{Operation}
+use Rattle.stepping.specs.declared.histories.History.{History}
 use Rattle.stepping.specs.Record.{held, operation_at}
 use Rattle.stepping.specs.Shape.{shape_of}
 use Rattle.recording_meaning.specs.Reading.{Sized, entry_of, rows_of}

@@ -11,8 +11,8 @@ use Rattle.semantics.specs.declared.Said.{Said}
 use Rattle.semantics.specs.declared.Said.TheVariants.{Yes, No, Refused as SRefused}
 use Rattle.families.specs.declared.placing.Outcome.{Outcome}
 use Rattle.families.specs.declared.placing.Outcome.TheVariants.{Pending, Returned}
-use Rattle.stepping.specs.declared.history.Operation.{Operation}
-use Rattle.stepping.specs.declared.history.History.{History}
+use Rattle.stepping.specs.declared.histories.Operation.{Operation}
+use Rattle.stepping.specs.declared.histories.History.{History}
 use Rattle.stepping.specs.Record.{held, operation_at}
 use Rattle.stepping.specs.Shape.{all_below}
 use Rattle.witness.specs.declared.replay.Settled.{Settled}

@@ -9,7 +9,7 @@ use families::placing::Outcome;
 use families::{Object, Op};
 use semantics::{Answer, Said, invoke, is_valid_step};
 use shape::notes::NOTES;
-use stepping::history::History;
+use stepping::histories::History;
 use values::sizes::THREADS;
 
 // What became of an operation: it may stand there, it is completed, and the object that it leaves.

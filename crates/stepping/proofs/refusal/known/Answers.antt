@@ -1,0 +1,13 @@
+-- A thread above 7 is refused.
+use borrow.Author.Tests.{le-ltb, lt-ltb}
+use borrow.Author.Rules.{rules}
+use Rattle.stepping.specs.StepChecks.{known_of}
+use Rattle.stepping.proofs.refusal.known.Goals as goal
+
+pub returns-then-t-lt-THREADS : goal.returns-then-t-lt-THREADS
+unfolding known_of
+returns-then-t-lt-THREADS c = simp (lt-ltb _ _ c.if-t-lt-THREADS.true)
+
+pub returns : goal.returns
+unfolding known_of
+returns c = simp (le-ltb _ _ c.if-t-lt-THREADS.false, ← c.refused.ensures)
