@@ -1,0 +1,17 @@
+-- The notes are written thread by thread.
+use Prim.Native.Nat.{ℕ, ◌≤◌, ◌-◌}
+use mathlib.Core.Path.{◌≡◌, refl, subst}
+use native.Mathlib.Omega.{arith}
+use borrow.Author.Rules.{rules}
+use borrow.Author.Tests.{le-leb, lt-leb}
+use Rattle.values.specs.Sizes.{threads}
+use Rattle.shape.specs.Notes.{notes_with}
+use Rattle.shape.specs.Notes.{noted_at}
+use Rattle.shape.specs.NotesLaws.{note_more}
+use Rattle.shape.proofs.notes.note.Given as goal
+
+abbrev pub invariant-loop-u : goal.invariant-loop-u
+invariant-loop-u l = (l.u ≤ threads) × (l.notes ≡ notes_with l.done l.own l.at l.initial.notes l.u)
+
+abbrev pub decreases-loop-u : goal.decreases-loop-u
+decreases-loop-u l = threads - l.u

@@ -1,0 +1,21 @@
+-- What is left of the notes fits exactly if all do.
+use Prim.Native.Nat.{◌≤◌, ◌-◌}
+use mathlib.Core.Path.{◌≡◌, refl, sym, ◌∙◌}
+use native.Mathlib.Omega.{arith}
+use lib.ListN.{drop, length}
+use borrow.Author.Rules.{rules}
+use borrow.Author.Tests.{lt-leb}
+use Rattle.values.specs.Sizes.{capacity}
+use Rattle.stepping.specs.Record.{held}
+use Rattle.stepping.specs.Shape.{notes_fit_from}
+use Rattle.shape.specs.Notes.{notes_in}
+use Rattle.stepping.specs.RecordLaws.{unmapped}
+use Rattle.shape.specs.NotesLaws.{notes_yes, notes_no, notes_end, notes_all}
+use Rattle.shape.proofs.notes.noted.Given as goal
+
+abbrev pub invariant-loop-i : goal.invariant-loop-i
+invariant-loop-i l =
+    (l.i ≤ l.count) × (notes_fit_from l.history.done l.notes l.i (drop l.i (held l.history)) ≡ notes_fit_from l.history.done l.notes 0 (held l.history))
+
+abbrev pub decreases-loop-i : goal.decreases-loop-i
+decreases-loop-i l = l.count - l.i

@@ -1,0 +1,18 @@
+-- Each thread's note is held to what it can be.
+use Prim.Native.Nat.{ℕ, ◌≤◌, ◌-◌}
+use mathlib.Core.Bool.{Bool, true}
+use mathlib.Core.Path.{◌≡◌, refl, sym, ap, ◌∙◌}
+use lib.Dec.{leb}
+use lib.ListN.{get_or}
+use borrow.Author.Rules.{rules}
+use borrow.Author.Tests.{lt-leb, le-leb}
+use Rattle.values.specs.Sizes.{threads}
+use Rattle.stepping.specs.Shape.{all_below, note_at, notable, notes_fit}
+use Rattle.stepping.specs.RecordLaws.{below_no, below_more, below_end}
+use Rattle.shape.proofs.notes.notes_fit.Given as goal
+
+abbrev pub invariant-loop-u : goal.invariant-loop-u
+invariant-loop-u l = (l.u ≤ threads) × (all_below (λ u'. leb (note_at l.notes l.at u') (notable (get_or l.done u' 0) l.own u')) l.u ≡ true)
+
+abbrev pub decreases-loop-u : goal.decreases-loop-u
+decreases-loop-u l = threads - l.u
