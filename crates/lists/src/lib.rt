@@ -6,6 +6,7 @@ pub mod bytes;
 pub mod codes;
 pub mod events;
 pub mod fields;
+pub mod input;
 pub mod lines;
 pub mod starts;
 pub mod telling;

@@ -1,66 +1,62 @@
 // What the programs write.
 use crate::fields::NONE;
-use libc::STDOUT_FILENO;
+use std::io;
 
-pub fn say(text: &[u8]) {
-    io::write_all(STDOUT_FILENO, text);
+pub fn say(rt: &impl Print, text: &[u8]) -> io::Result<()> {
+    rt.write_all(text)
 }
 
-pub fn say_number(n: u64) {
-    io::print_decimal(STDOUT_FILENO, n);
+pub fn say_number(rt: &impl Print, n: u64) -> io::Result<()> {
+    rt.print(n)
 }
 
-pub fn say_letter(letter: u8) {
+pub fn say_letter(rt: &impl Print, letter: u8) -> io::Result<()> {
     let text = [letter];
-    say(&text);
+    say(rt, &text)
 }
 
 // A value as a corpus file sends it.
-fn say_value(word: u64) {
+fn say_value(rt: &impl Print, word: u64) -> io::Result<()> {
     if word == NONE {
-        say(b"nothing");
-        return;
+        return say(rt, b"nothing");
     }
     if word % 2 == 0 {
-        say_number(word / 2);
-        return;
+        return say_number(rt, word / 2);
     }
-    say_letter(b'-');
-    say_number(word / 2 + 1);
+    say_letter(rt, b'-')?;
+    say_number(rt, word / 2 + 1)
 }
 
 // A letter of a text, or what it stands for.
-fn say_mark(letter: u8, first: u64, second: u64) {
+fn say_mark(rt: &impl Print, letter: u8, first: u64, second: u64) -> io::Result<()> {
     if letter == b'%' {
-        say_number(first);
-        return;
+        return say_number(rt, first);
     }
     if letter == b'&' {
-        say_number(second);
-        return;
+        return say_number(rt, second);
     }
     if letter == b'@' {
-        say_value(first);
-        return;
+        return say_value(rt, first);
     }
-    say_letter(letter);
+    say_letter(rt, letter)
 }
 
 // Says the text of that number, of texts that end in `/` each. In it `%` stands for the first number, `&` for the second,
 // and `@` for the first as a value.
-pub fn tell(texts: &[u8], which: u64, first: u64, second: u64) {
+pub fn tell(rt: &impl Print, texts: &[u8], which: u64, first: u64, second: u64) -> io::Result<()> {
     let mut left = which;
     let mut i = 0;
     while i < texts.len() {
         let letter = texts[i];
         if letter == b'/' {
             if left == 0 {
-                return;
+                return Ok(());
             }
             left -= 1;
         } else if left == 0 {
-            say_mark(letter, first, second);
+            say_mark(rt, letter, first, second)?;
         }
         i += 1;
     }
+    Ok(())
 }

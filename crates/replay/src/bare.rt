@@ -13,6 +13,7 @@ use lists::fields::{NONE, from, natural};
 use lists::lines::{LONGEST, begun, whole, with_byte};
 use lists::starts::{kind_of, object_of};
 use semantics::{Answer, Said, Stepped};
+use std::io;
 use values::sizes::ROOM;
 
 // What a line came to, and the object that it left.
@@ -191,7 +192,7 @@ fn compared(family: u64, object: Object, numbers: &[u64]) -> Left {
     unreadable(object)
 }
 
-pub fn replay(text: &[u8]) -> [u64; COUNTS] {
+pub fn replay(rt: &impl Print, text: &[u8]) -> io::Result<[u64; COUNTS]> {
     let mut counts = [0; COUNTS];
     let mut line = [0; LONGEST];
     let mut reading = begun();
@@ -206,10 +207,10 @@ pub fn replay(text: &[u8]) -> [u64; COUNTS] {
             let numbers = whole(reading, &line);
             let compared = compared(family, object, numbers);
             object = compared.object;
-            count_line(&mut counts, OBJECTS, compared.came, family, numbers);
+            count_line(rt, &mut counts, OBJECTS, compared.came, family, numbers)?;
             family = family_after(compared.came, family, numbers);
             reading = begun();
         }
     }
-    counts
+    Ok(counts)
 }

@@ -16,55 +16,49 @@ mod telling;
 mod verdicts;
 
 use list::{EVENTS, FILES, HISTORIES, OBJECTS, ORDERS};
+use lists::input::read_up_to;
 use lists::telling::say;
+use std::fs::File;
+use std::{fs, io};
 use tally::COUNTS;
 use telling::say_tally;
 
 // Room for the longest list.
 const TEXT: usize = 2000000;
 
-fn counted(list: u64, text: &[u8]) -> [u64; COUNTS] {
+fn counted(rt: &impl Print, list: u64, text: &[u8]) -> io::Result<[u64; COUNTS]> {
     if list == OBJECTS {
-        return bare::replay(text);
+        return bare::replay(rt, text);
     }
-    sequences::replay(list, text)
+    sequences::replay(rt, list, text)
 }
 
-// Handed out by a function, so that only its length is known where it is lent: the check would go through a literal
-// of this length.
-fn blank() -> [u8; TEXT] {
-    [0; TEXT]
-}
-
-// The list that a descriptor reads.
-fn read(fd: i32, list: u64) {
-    let mut text = blank();
-    let length = io::read_full(fd, &mut text);
-    if length == TEXT {
-        say(b"the list is too long\n");
-        return;
+// The list that a file holds.
+fn read(rt: &HostRuntime, file: File, list: u64) -> io::Result<()> {
+    let text = read_up_to(rt, file, TEXT as u64)?;
+    if text.len() == TEXT {
+        return say(rt, b"the list is too long\n");
     }
-    let counts = counted(list, &text[..length]);
-    say_tally(list, &counts);
+    let counts = counted(rt, list, text.as_slice())?;
+    say_tally(rt, list, &counts)
 }
 
-fn replay(list: u64, path: &[u8]) {
-    say(path);
-    say(b"\n");
-    let fd = os::open_read(path);
-    if fd < 0 {
-        os::fail(path);
-        say(b"the list can't be opened\n");
-        return;
+fn replay(rt: &HostRuntime, list: u64, path: &str) -> io::Result<()> {
+    say(rt, path.as_bytes())?;
+    say(rt, b"\n")?;
+    match fs::open(rt, path) {
+        Ok(file) => read(rt, file, list),
+        Err(error) => {
+            eprintln!(rt; "{path}: {error}")?;
+            say(rt, b"the list can't be opened\n")
+        }
     }
-    read(fd, list);
-    libc::close(fd);
 }
 
-fn main() {
-    replay(OBJECTS, b"objects.txt");
-    replay(EVENTS, b"events.txt");
-    replay(HISTORIES, b"histories.txt");
-    replay(ORDERS, b"orders.txt");
-    replay(FILES, b"files.txt");
+fn main(rt: HostRuntime) -> io::Result<()> {
+    replay(&rt, OBJECTS, "objects.txt")?;
+    replay(&rt, EVENTS, "events.txt")?;
+    replay(&rt, HISTORIES, "histories.txt")?;
+    replay(&rt, ORDERS, "orders.txt")?;
+    replay(&rt, FILES, "files.txt")
 }

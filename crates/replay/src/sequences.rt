@@ -9,6 +9,7 @@ use lists::events::{BOTH, INVOKE, RETURN, START, event_at};
 use lists::fields::{NONE, from, natural};
 use lists::lines::{LONGEST, begun, whole, with_byte};
 use lists::starts::object_of;
+use std::io;
 use testers::{Answer, Testers};
 
 fn is(answer: Answer, number: u8, len: u64) -> bool {
@@ -122,7 +123,7 @@ fn refused_after(refused: bool, numbers: &[u64]) -> bool {
     refused || natural(said_at(numbers), 0) == 0
 }
 
-pub fn replay(list: u64, text: &[u8]) -> [u64; COUNTS] {
+pub fn replay(rt: &impl Print, list: u64, text: &[u8]) -> io::Result<[u64; COUNTS]> {
     let mut counts = [0; COUNTS];
     let mut line = [0; LONGEST];
     let mut reading = begun();
@@ -150,11 +151,11 @@ pub fn replay(list: u64, text: &[u8]) -> [u64; COUNTS] {
                     numbers,
                 );
             }
-            count_line(&mut counts, list, came, family, numbers);
+            count_line(rt, &mut counts, list, came, family, numbers)?;
             refused = refused_after(refused, numbers);
             family = family_after(came, family, numbers);
             reading = begun();
         }
     }
-    counts
+    Ok(counts)
 }

@@ -4,6 +4,7 @@ use crate::list::{EVENTS, FILES, OBJECTS};
 use crate::telling::name_line;
 use crate::{came, files};
 use lists::fields::natural;
+use std::io;
 
 // Five counts to a group, and after the last group five of all lines.
 const EACH: u64 = 5;
@@ -90,14 +91,21 @@ fn count_answer(counts: &mut [u64; COUNTS], came: u64, group: u64, call: u64) {
 }
 
 // One line more, and what it came to.
-pub fn count_line(counts: &mut [u64; COUNTS], list: u64, came: u64, family: u64, numbers: &[u64]) {
+pub fn count_line(
+    rt: &impl Print,
+    counts: &mut [u64; COUNTS],
+    list: u64,
+    came: u64,
+    family: u64,
+    numbers: &[u64],
+) -> io::Result<()> {
     more(counts, ALL, LINES);
     if came == came::STARTED {
         more(counts, ALL, STARTS);
-        return;
+        return Ok(());
     }
     if came == came::FED {
-        return;
+        return Ok(());
     }
     if came == came::UNREADABLE {
         more(counts, ALL, UNREADABLE);
@@ -111,6 +119,7 @@ pub fn count_line(counts: &mut [u64; COUNTS], list: u64, came: u64, family: u64,
     }
     if came != came::AGREES {
         more(counts, ALL, WRONG);
-        name_line(counts, came);
+        name_line(rt, counts, came)?;
     }
+    Ok(())
 }
