@@ -9,6 +9,7 @@ use host::kilteshva_judge;
 use judging::answer::NOBODY;
 use lists::bytes::{lay, part};
 use lists::telling::{say, tell};
+use std::io;
 use values::refusal::is_clear;
 use values::value::zigzag;
 
@@ -21,20 +22,21 @@ const ANSWER: usize = 79;
 // A byte that the host call has to write over.
 const UNWRITTEN: u8 = 0xAA;
 
-fn say_digit(digit: u8) {
-    tell(b"0/1/2/3/4/5/6/7/8/9/A/B/C/D/E/F/", digit as u64, 0, 0);
+fn say_digit(rt: &impl Print, digit: u8) -> io::Result<()> {
+    tell(rt, b"0/1/2/3/4/5/6/7/8/9/A/B/C/D/E/F/", digit as u64, 0, 0)
 }
 
 // Bytes as document 01 writes them, with a blank before each.
-fn say_bytes(bytes: &[u8]) {
+fn say_bytes(rt: &impl Print, bytes: &[u8]) -> io::Result<()> {
     let mut i = 0;
     while i < bytes.len() {
         let byte = bytes[i];
-        say(b" ");
-        say_digit(byte / 16);
-        say_digit(byte % 16);
+        say(rt, b" ")?;
+        say_digit(rt, byte / 16)?;
+        say_digit(rt, byte % 16)?;
         i += 1;
     }
+    Ok(())
 }
 
 // Where the bytes begin that are all `last`, up to the end.
@@ -52,20 +54,20 @@ fn run_of(bytes: &[u8], last: u8) -> usize
 }
 
 // The bytes of an answer; of the places that are not taken only how many there are.
-fn say_answer(bytes: &[u8]) {
+fn say_answer(rt: &impl Print, bytes: &[u8]) -> io::Result<()> {
     let from = run_of(bytes, NOBODY);
-    say_bytes(&bytes[..from]);
-    tell(b", % times FF", 0, (bytes.len() - from) as u64, 0);
+    say_bytes(rt, &bytes[..from])?;
+    tell(rt, b", % times FF", 0, (bytes.len() - from) as u64, 0)
 }
 
 // What a tester starts with. Where nothing is invoked there stands an operation of a register.
-fn say_start(kind: Kind) {
+fn say_start(rt: &impl Print, kind: Kind) -> io::Result<()> {
     if is_clear(op_belongs(kind, no_op())) {
         let held = held_of(kind);
-        tell(b"; a register at @\n", 0, zigzag(held.value) as u64, 0);
-        return;
+        tell(rt, b"; a register at @\n", 0, zigzag(held.value) as u64, 0)?;
+        return Ok(());
     }
-    say(b"; no register\n");
+    say(rt, b"; no register\n")
 }
 
 // What a file loads to. It stands alone, as `judge` does.
@@ -73,16 +75,17 @@ fn loaded(file: &[u8]) -> Loaded {
     load(file)
 }
 
-fn say_loaded(loaded: Loaded) {
+fn say_loaded(rt: &impl Print, loaded: Loaded) -> io::Result<()> {
     let start = loaded.tester.history.start;
     let kind = start.kind;
     tell(
+        rt,
         b": %, place &",
         0,
         loaded.number as u64,
         loaded.place as u64,
-    );
-    say_start(kind);
+    )?;
+    say_start(rt, kind)
 }
 
 // The host call. It stands alone, since all that is done where its promise is known is dearer to check.
@@ -91,40 +94,39 @@ fn judge(file: &[u8], model: u32, budget: u64, answer: &mut [u8]) -> u32 {
 }
 
 // What the host call answers by that model.
-fn say_judged(file: &[u8], model: u32, budget: u64) {
+fn say_judged(rt: &impl Print, file: &[u8], model: u32, budget: u64) -> io::Result<()> {
     let mut answer = [UNWRITTEN; ANSWER];
     let number = judge(file, model, budget, &mut answer);
     tell(
+        rt,
         b" | sequential: %;/, budget &: linearizable: %;/",
         model as u64,
         number as u64,
         budget,
-    );
-    say_answer(&answer);
+    )?;
+    say_answer(rt, &answer)
 }
 
 // The file of these bytes, loaded.
-pub fn tell_loaded(bytes: &[u64]) {
+pub fn tell_loaded(rt: &impl Print, bytes: &[u64]) -> io::Result<()> {
     let mut storage = [0; FILE];
     if lay(bytes, &mut storage) {
         let file = part(&storage, bytes.len());
-        say_bytes(file);
-        say_loaded(loaded(file));
-        return;
+        say_bytes(rt, file)?;
+        return say_loaded(rt, loaded(file));
     }
-    say(b"unreadable\n");
+    say(rt, b"unreadable\n")
 }
 
 // The file of these bytes, judged within the budget.
-pub fn tell_judged(budget: u64, bytes: &[u64]) {
+pub fn tell_judged(rt: &impl Print, budget: u64, bytes: &[u64]) -> io::Result<()> {
     let mut storage = [0; FILE];
     if lay(bytes, &mut storage) {
         let file = part(&storage, bytes.len());
-        say_bytes(file);
-        say_judged(file, 1, budget);
-        say_judged(file, 0, budget);
-        say(b"\n");
-        return;
+        say_bytes(rt, file)?;
+        say_judged(rt, file, 1, budget)?;
+        say_judged(rt, file, 0, budget)?;
+        return say(rt, b"\n");
     }
-    say(b"unreadable\n");
+    say(rt, b"unreadable\n")
 }

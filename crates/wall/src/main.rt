@@ -13,23 +13,19 @@ mod telling;
 mod trace;
 mod verdicts;
 
+use lists::input::read_up_to;
+use std::{fs, io};
+
 // Room for the traces.
 const TEXT: usize = 16384;
 
-// Handed out by a function, so that only its length is known where it is lent.
-fn blank() -> [u8; TEXT] {
-    [0; TEXT]
-}
-
-fn main() {
-    let path = b"traces.txt";
-    let fd = os::open_read(path);
-    if fd < 0 {
-        os::fail(path);
-        return;
+fn main(rt: HostRuntime) -> io::Result<()> {
+    let path = "traces.txt";
+    match fs::open(&rt, path) {
+        Ok(file) => {
+            let text = read_up_to(&rt, file, TEXT as u64)?;
+            script::run(&rt, text.as_slice())
+        }
+        Err(error) => eprintln!(rt; "{path}: {error}"),
     }
-    let mut text = blank();
-    let length = io::read_full(fd, &mut text);
-    libc::close(fd);
-    script::run(&text[..length]);
 }

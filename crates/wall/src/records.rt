@@ -8,6 +8,7 @@ use lists::telling::say;
 use objects::register::{RegisterOp, RegisterRet};
 use objects::vec::{VecOp, VecRet};
 use recording::linearizability::LinearizabilityTester;
+use std::io;
 use values::value::Maybe;
 
 // A number of a line in 8 bits; the largest where it has more.
@@ -86,26 +87,38 @@ fn record_at(what: u8, numbers: &[u64]) -> LinearizabilityTester {
 
 // What is answered of a tester, and of a sequential one with the same history. The checker is asked about the orders that
 // the judges find of the other.
-fn say_both(tester: LinearizabilityTester, beside: LinearizabilityTester, op: Op, ret: Ret) {
-    say(b"linearizable: ");
-    say_linearizability(tester, beside, op, ret);
-    say(b" | sequential: ");
-    say_sequential(without_notes(tester), without_notes(beside), op, ret);
+fn say_both(
+    rt: &impl Print,
+    tester: LinearizabilityTester,
+    beside: LinearizabilityTester,
+    op: Op,
+    ret: Ret,
+) -> io::Result<()> {
+    say(rt, b"linearizable: ")?;
+    say_linearizability(rt, tester, beside, op, ret)?;
+    say(rt, b" | sequential: ")?;
+    say_sequential(rt, without_notes(tester), without_notes(beside), op, ret)
 }
 
-fn say_pair(fault: LinearizabilityTester, beside: LinearizabilityTester, op: Op, ret: Ret) {
-    say_both(fault, beside, op, ret);
-    say(b" || beside it: ");
-    say_both(beside, beside, op, ret);
-    say(b"\n");
+fn say_pair(
+    rt: &impl Print,
+    fault: LinearizabilityTester,
+    beside: LinearizabilityTester,
+    op: Op,
+    ret: Ret,
+) -> io::Result<()> {
+    say_both(rt, fault, beside, op, ret)?;
+    say(rt, b" || beside it: ")?;
+    say_both(rt, beside, beside, op, ret)?;
+    say(rt, b"\n")
 }
 
 // OP RET WHAT, four numbers of a record with a fault and four of its neighbour.
-pub fn tell_record(numbers: &[u64]) {
+pub fn tell_record(rt: &impl Print, numbers: &[u64]) -> io::Result<()> {
     let op = op_of(small(numbers, 0));
     let ret = ret_of(small(numbers, 1));
     let what = small(numbers, 2);
     let fault = record_at(what, from(numbers, 3));
     let beside = record_at(what, from(numbers, 7));
-    say_pair(fault, beside, op, ret);
+    say_pair(rt, fault, beside, op, ret)
 }

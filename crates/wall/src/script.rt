@@ -5,6 +5,7 @@ use crate::trace::{ask, setting_after, unset};
 use lists::events;
 use lists::lines::{LONGEST, Reading, begun, whole, with_byte};
 use lists::telling::say_letter;
+use std::io;
 
 // What a byte belongs to.
 const NUMBERS: u8 = 0;
@@ -37,12 +38,13 @@ fn after(part: u8, byte: u8) -> u8 {
 }
 
 // Tells a byte of what is quoted.
-fn say_part(part: u8, next: u8, byte: u8) {
+fn say_part(rt: &impl Print, part: u8, next: u8, byte: u8) -> io::Result<()> {
     if part == QUOTED {
         if next == QUOTED {
-            say_letter(byte);
+            say_letter(rt, byte)?;
         }
     }
+    Ok(())
 }
 
 // A line of numbers with one byte more, where the byte belongs to it.
@@ -55,7 +57,7 @@ fn read_part(reading: Reading, part: u8, next: u8, byte: u8, line: &mut [u64; LO
     reading
 }
 
-pub fn run(text: &[u8]) {
+pub fn run(rt: &impl Print, text: &[u8]) -> io::Result<()> {
     let mut line = [0; LONGEST];
     let mut reading = begun();
     let mut answers = events::begun(&line);
@@ -66,22 +68,24 @@ pub fn run(text: &[u8]) {
         let byte = text[at];
         at += 1;
         let next = after(part, byte);
-        say_part(part, next, byte);
+        say_part(rt, part, next, byte)?;
         reading = read_part(reading, part, next, byte, &mut line);
         if byte == b'\n' && part == NUMBERS {
             let numbers = whole(reading, &line);
             answers = events::after(answers, setting.family, numbers);
             tell_event(
+                rt,
                 setting.telling,
                 setting.family,
                 numbers,
                 answers.linearizability,
                 answers.sequential,
-            );
-            ask(answers.testers, setting.family, numbers);
+            )?;
+            ask(rt, answers.testers, setting.family, numbers)?;
             setting = setting_after(setting, numbers);
             reading = begun();
         }
         part = next;
     }
+    Ok(())
 }

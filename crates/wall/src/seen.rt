@@ -6,6 +6,7 @@ use judging::{linearizability, sequential_consistency};
 use lists::telling::tell;
 use recording::linearizability::LinearizabilityTester;
 use recording::sequential_consistency::SequentialConsistencyTester;
+use std::io;
 use stepping::recorded::number;
 
 // The thread that the events are of.
@@ -71,26 +72,26 @@ fn sequential_numbers_of(tester: SequentialConsistencyTester, op: Op, ret: Ret) 
     }
 }
 
-fn say_numbers(numbers: Numbers, len: usize) {
-    tell(b"% &", 0, numbers.invoke as u64, numbers.back as u64);
-    tell(b" %, len &, ", 0, numbers.both as u64, len as u64);
+fn say_numbers(rt: &impl Print, numbers: Numbers, len: usize) -> io::Result<()> {
+    tell(rt, b"% &", 0, numbers.invoke as u64, numbers.back as u64)?;
+    tell(rt, b" %, len &, ", 0, numbers.both as u64, len as u64)
 }
 
 // The verdict and its attempts, and whether the checker took an order.
-fn say_verdict(answer: Answer, taken: bool) {
+fn say_verdict(rt: &impl Print, answer: Answer, taken: bool) -> io::Result<()> {
     let verdict = answer.verdict;
     tell(
+        rt,
         b"Order/No order/Undecided/Invalid/",
         verdict_number(verdict) as u64,
         0,
         0,
-    );
-    tell(b" in %, checker ", 0, answer.attempts, 0);
+    )?;
+    tell(rt, b" in %, checker ", 0, answer.attempts, 0)?;
     if taken {
-        tell(b"yes", 0, 0, 0);
-        return;
+        return tell(rt, b"yes", 0, 0, 0);
     }
-    tell(b"no", 0, 0, 0);
+    tell(rt, b"no", 0, 0, 0)
 }
 
 // Whether the checker takes, of a tester, the order that the judge finds of another.
@@ -110,27 +111,31 @@ fn accepts_sequential(
 }
 
 pub fn say_linearizability(
+    rt: &impl Print,
     tester: LinearizabilityTester,
     beside: LinearizabilityTester,
     op: Op,
     ret: Ret,
-) {
-    say_numbers(numbers_of(tester, op, ret), tester.len());
+) -> io::Result<()> {
+    say_numbers(rt, numbers_of(tester, op, ret), tester.len())?;
     say_verdict(
+        rt,
         linearizability::judge(tester, u64::MAX),
         accepts(tester, beside),
-    );
+    )
 }
 
 pub fn say_sequential(
+    rt: &impl Print,
     tester: SequentialConsistencyTester,
     beside: SequentialConsistencyTester,
     op: Op,
     ret: Ret,
-) {
-    say_numbers(sequential_numbers_of(tester, op, ret), tester.len());
+) -> io::Result<()> {
+    say_numbers(rt, sequential_numbers_of(tester, op, ret), tester.len())?;
     say_verdict(
+        rt,
         sequential_consistency::judge(tester, u64::MAX),
         accepts_sequential(tester, beside),
-    );
+    )
 }

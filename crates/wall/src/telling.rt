@@ -2,6 +2,7 @@
 use lists::events::{BOTH, Event, RETURN, event_at};
 use lists::fields::NONE;
 use lists::telling::{say, tell};
+use std::io;
 use testers::Answer;
 use values::coded::Coded;
 
@@ -18,13 +19,14 @@ fn name_of(family: u64, number: u32) -> u64 {
     NONE
 }
 
-fn say_op(family: u64, op: Coded) {
+fn say_op(rt: &impl Print, family: u64, op: Coded) -> io::Result<()> {
     tell(
+        rt,
         b"Write(@)/Read//Write(@)/Read//Push(@)/Pop/Len/",
         name_of(family, op.number),
         op.word as u64,
         0,
-    );
+    )
 }
 
 // The value that is carried.
@@ -35,33 +37,35 @@ fn carried(coded: Coded) -> u64 {
     coded.word as u64
 }
 
-pub fn say_ret(family: u64, ret: Coded) {
+pub fn say_ret(rt: &impl Print, family: u64, ret: Coded) -> io::Result<()> {
     tell(
+        rt,
         b"WriteOk/ReadOk(@)//WriteOk/WriteFail/ReadOk(@)/PushOk/PopOk(@)/LenOk(%)/",
         name_of(family, ret.number),
         carried(ret),
         0,
-    );
+    )
 }
 
-fn say_event(family: u64, event: Event) {
+fn say_event(rt: &impl Print, family: u64, event: Event) -> io::Result<()> {
     let op = event.op;
     let ret = event.ret;
     tell(
+        rt,
         b"/T% invokes /T% returns /T% invokes /",
         event.lead,
         event.thread as u64,
         0,
-    );
+    )?;
     if event.lead == RETURN {
-        say_ret(family, ret);
-        return;
+        return say_ret(rt, family, ret);
     }
-    say_op(family, op);
+    say_op(rt, family, op)?;
     if event.lead == BOTH {
-        say(b" and returns ");
-        say_ret(family, ret);
+        say(rt, b" and returns ")?;
+        say_ret(rt, family, ret)?;
     }
+    Ok(())
 }
 
 // Whether the testers answer alike, 0, or not, 1.
@@ -75,20 +79,28 @@ fn differs(a: Answer, b: Answer) -> u64 {
 }
 
 // An event, and what the testers of an object of that family answered.
-pub fn tell_event(telling: u64, family: u64, numbers: &[u64], a: Answer, b: Answer) {
+pub fn tell_event(
+    rt: &impl Print,
+    telling: u64,
+    family: u64,
+    numbers: &[u64],
+    a: Answer,
+    b: Answer,
+) -> io::Result<()> {
     let event = event_at(family, numbers);
     if telling == SILENT || !event.good {
-        return;
+        return Ok(());
     }
-    say_event(family, event);
+    say_event(rt, family, event)?;
     if telling == ANSWERED {
         tell(
+            rt,
             b": %, len &; /: %, len & (not so for sequential consistency); /",
             differs(a, b),
             a.number as u64,
             a.len as u64,
-        );
-        return;
+        )?;
+        return Ok(());
     }
-    say(b"; ");
+    say(rt, b"; ")
 }

@@ -7,6 +7,7 @@ use lists::events::{START, event_at};
 use lists::fields::{from, natural, wide};
 use lists::starts::object_of;
 use lists::telling::say;
+use std::io;
 use testers::Testers;
 
 // The numbers that begin a line, beside those of objects and events.
@@ -69,45 +70,42 @@ fn is_readable(family: u64, numbers: &[u64]) -> bool {
 }
 
 // What is asked of records, bare objects and constructors; whether it is one of these.
-fn asks_apart(numbers: &[u64]) -> bool {
+fn asks_apart(rt: &impl Print, numbers: &[u64]) -> io::Result<bool> {
     let lead = natural(numbers, 0);
     let rest = from(numbers, 1);
     if lead == RECORD {
-        tell_record(rest);
-        return true;
+        tell_record(rt, rest)?;
+        return Ok(true);
     }
     if lead == BARE {
-        tell_bare(rest);
-        return true;
+        tell_bare(rt, rest)?;
+        return Ok(true);
     }
     if lead == NEW {
-        tell_new(rest);
-        return true;
+        tell_new(rt, rest)?;
+        return Ok(true);
     }
-    false
+    Ok(false)
 }
 
 // What is asked of testers of an object of that family, of a file, or apart from both.
-pub fn ask(testers: Testers, family: u64, numbers: &[u64]) {
+pub fn ask(rt: &impl Print, testers: Testers, family: u64, numbers: &[u64]) -> io::Result<()> {
     let lead = natural(numbers, 0);
     let budget = wide(natural(numbers, 1), natural(numbers, 2));
     if lead == JUDGE {
-        judge(testers, family, budget);
-        return;
+        return judge(rt, testers, family, budget);
     }
     if lead == LOAD {
-        tell_loaded(from(numbers, 1));
-        return;
+        return tell_loaded(rt, from(numbers, 1));
     }
     if lead == CALL {
-        tell_judged(budget, from(numbers, 3));
-        return;
+        return tell_judged(rt, budget, from(numbers, 3));
     }
-    if asks_apart(numbers) {
-        return;
+    if asks_apart(rt, numbers)? {
+        return Ok(());
     }
     if is_readable(family, numbers) {
-        return;
+        return Ok(());
     }
-    say(b"unreadable\n");
+    say(rt, b"unreadable\n")
 }
