@@ -27,8 +27,8 @@ pub loop-i-preserved : goal.loop-i-preserved
 loop-i-preserved c =
     let start = c in
     let at-loop = c.loop-i in
-    let h = start.args.t1 in
-    let long : length h.ops ≡ capacity = unmapped _ h.ops capacity start.well-formed.0.1.1.1.0.1.0.1 in
+    let h = start.args.history in
+    let long : length h.ops ≡ capacity = search rules in
     let enough : h.count ≤ length h.ops = omega (arith, long, c.if-count-gt-OPERATIONS.false) in
     let notes = start.args.notes.now in (
       search rules,
@@ -41,9 +41,9 @@ returns-else-notes_fit c =
     let start = c in
     let at-if1 = c.if-count-gt-OPERATIONS in
     let at-loop = c.loop-i in
-    let h = start.args.t1 in
+    let h = start.args.history in
     let notes = start.args.notes.now in
-    let long : length h.ops ≡ capacity = unmapped _ h.ops capacity start.well-formed.0.1.1.1.0.1.0.1 in
+    let long : length h.ops ≡ capacity = search rules in
     let enough : h.count ≤ length h.ops = omega (arith, long, at-if1.false) in
     notes_all h notes _ at-if1.false
     (notes_no h enough notes at-loop.i c.loop-i-test.true _ c.notes_fit.ensures c.if-notes_fit.false _
@@ -54,8 +54,8 @@ returns c =
     let start = c in
     let at-if1 = c.if-count-gt-OPERATIONS in
     let at-loop = c.loop-i in
-    let h = start.args.t1 in
+    let h = start.args.history in
     let notes = start.args.notes.now in
-    let long : length h.ops ≡ capacity = unmapped _ h.ops capacity start.well-formed.0.1.1.1.0.1.0.1 in
+    let long : length h.ops ≡ capacity = search rules in
     let enough : h.count ≤ length h.ops = omega (arith, long, at-if1.false) in
     notes_all h notes _ at-if1.false (sym at-loop.invariant.1 ∙ notes_end h enough notes at-loop.i c.loop-i-test.false)
