@@ -1,0 +1,8 @@
+-- The parts of the record, each made by its function.
+use borrow.Author.Rules.{rules}
+use Rattle.faults.specs.Records.{noting}
+use Rattle.faults.proofs.noting.Goals as goal
+
+pub returns : goal.returns
+unfolding noting
+returns c = simp (c.of_two.ensures, c.one_note.ensures, c.counters.ensures, c.reading.ensures, c.read.ensures)

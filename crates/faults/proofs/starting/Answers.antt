@@ -1,0 +1,8 @@
+-- The parts of the record, each made by its function.
+use borrow.Author.Rules.{rules}
+use Rattle.faults.specs.Records.{starting}
+use Rattle.faults.proofs.starting.Goals as goal
+
+pub returns : goal.returns
+unfolding starting
+returns c = simp (c.untaken.ensures, c.stack-start.ensures)

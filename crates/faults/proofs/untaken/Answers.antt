@@ -1,0 +1,6 @@
+-- What fills a fresh record.
+use borrow.Author.Rules.{rules}
+use Rattle.faults.proofs.untaken.Goals as goal
+
+pub returns : goal.returns
+returns c = simp c.no_op-op.ensures
