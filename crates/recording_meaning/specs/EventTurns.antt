@@ -118,7 +118,7 @@ module _ (M : Model) (L : Lawful M) where
         judge (barred e z) w = same _ (invoke_refused z)
         judge (passed a) w = run a w
 
-    pub return_turn : (ret : Ret) → ReturnTurn M s t ret (M.on_Return s t ret).0 (M.on_Return s t ret).1
+    pub return_turn : (ret : Ret) → ReturnTurn M s t ret (M.on_return s t ret).0 (M.on_return s t ret).1
     return_turn ret =
         let w = return_goes (M.shaped s) (M.history s) t ret in
         subst (λ (a : Recorded × M.Tester). ReturnTurn M s t ret a.0 a.1) (sym (L.returns s t ret)) (judge w.judge w.return)

@@ -76,7 +76,7 @@ module _ (M : Model) (L : Lawful M) where
         next : M.Tester
         next = (M.on_invoke s t op).1
 
-        go : (b : Bool) → comparable (pick b (M.on_Return next t ret) (M.on_invoke s t op)).0 ≡ true
+        go : (b : Bool) → comparable (pick b (M.on_return next t ret) (M.on_invoke s t op)).0 ≡ true
         go true =
             fits_return k.0 (ap (λ (k : Kind). ret_belongs k ret) (same_kind (invoke t op)) ∙ f.1.0)
             (return_turn M L next (good_invoke M L s g t op) t ret)
@@ -99,7 +99,7 @@ module _ (M : Model) (L : Lawful M) where
       go : (b : Bool) → invocations_in (cond b (invoked t op ∷ []) []) ≤ 1
       go true = omega arith
       go false = omega arith
-  takes_few s (return t ret) = go (is_taken (M.on_Return s t ret).0)
+  takes_few s (return t ret) = go (is_taken (M.on_return s t ret).0)
     where
       go : (b : Bool) → invocations_in (cond b (returned t ret ∷ []) []) ≤ 0
       go true = omega arith

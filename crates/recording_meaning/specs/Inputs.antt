@@ -77,7 +77,7 @@ module _ (M : Model) where
   -- The call that an input is: what it draws, and the tester after it.
   abbrev pub give : M.Tester → Input → Recorded × M.Tester
   give s (invoke t op) = M.on_invoke s t op
-  give s (return t ret) = M.on_Return s t ret
+  give s (return t ret) = M.on_return s t ret
   give s (invret t op ret) = M.on_invret s t op ret
 
   -- The tester after the inputs.
@@ -93,7 +93,7 @@ module _ (M : Model) where
   -- The events that are recorded of an input. Of on_invret: none where the invocation is refused, and the invocation alone where only the return is.
   abbrev pub takes : M.Tester → Input → Events families
   takes s (invoke t op) = cond (is_taken (M.on_invoke s t op).0) (invoked t op ∷ []) []
-  takes s (return t ret) = cond (is_taken (M.on_Return s t ret).0) (returned t ret ∷ []) []
+  takes s (return t ret) = cond (is_taken (M.on_return s t ret).0) (returned t ret ∷ []) []
   takes s (invret t op ret) =
       cond (is_taken (M.on_invoke s t op).0) (invoked t op ∷ cond (is_taken (M.on_invret s t op ret).0) (returned t ret ∷ []) []) []
 

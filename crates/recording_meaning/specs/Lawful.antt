@@ -43,10 +43,10 @@ pub record Lawful (M : Model) : Type 1 where
   pub begins : (start : Object) → (M.history (M.new start) ≡ (begun_of start).history) × Beside (M.new start)
   pub invokes : (s : M.Tester) (t : ℕ) (op : Op) → M.on_invoke s t op
       ≡ ((invoke_of (M.shaped s) (M.history s) t op).recorded, after_invoke s t (invoke_of (M.shaped s) (M.history s) t op))
-  pub returns : (s : M.Tester) (t : ℕ) (ret : Ret) → M.on_Return s t ret
+  pub returns : (s : M.Tester) (t : ℕ) (ret : Ret) → M.on_return s t ret
       ≡ ((return_of (M.shaped s) (M.history s) t ret).recorded, after_return s (return_of (M.shaped s) (M.history s) t ret))
   pub invrets : (s : M.Tester) (t : ℕ) (op : Op) (ret : Ret) → M.on_invret s t op ret
-      ≡ pick (is_taken (M.on_invoke s t op).0) (M.on_Return (M.on_invoke s t op).1 t ret) (M.on_invoke s t op)
+      ≡ pick (is_taken (M.on_invoke s t op).0) (M.on_return (M.on_invoke s t op).1 t ret) (M.on_invoke s t op)
   pub size : (s : M.Tester) → M.len s ≡ size_of (M.shaped s) (M.history s)
   -- the history after it, and the notes
   pub invoke_history : (s : M.Tester) (t : ℕ) (x : Step) → M.history (after_invoke s t x) ≡ x.history

@@ -57,18 +57,18 @@ module _ (M : Model) where
     pub in_shape : {s : M.Tester} → Reached M s → M.shaped s ≡ true
     -- so that none of them gets 9
     pub no_nine_invoke : {s : M.Tester} → Reached M s → (t : ℕ) (op : Op) → number_of (M.on_invoke s t op).0 ≢ 9
-    pub no_nine_return : {s : M.Tester} → Reached M s → (t : ℕ) (ret : Ret) → number_of (M.on_Return s t ret).0 ≢ 9
+    pub no_nine_return : {s : M.Tester} → Reached M s → (t : ℕ) (ret : Ret) → number_of (M.on_return s t ret).0 ≢ 9
     pub no_nine_invret : {s : M.Tester} → Reached M s → (t : ℕ) (op : Op) (ret : Ret) → number_of (M.on_invret s t op ret).0 ≢ 9
     -- whatever the record, 9 exactly if it is out of shape, and then the tester as it came
     pub nine_invoke : (s : M.Tester) (t : ℕ) (op : Op) → NineKeeps s (M.on_invoke s t op)
-    pub nine_return : (s : M.Tester) (t : ℕ) (ret : Ret) → NineKeeps s (M.on_Return s t ret)
+    pub nine_return : (s : M.Tester) (t : ℕ) (ret : Ret) → NineKeeps s (M.on_return s t ret)
     pub nine_invret : (s : M.Tester) → M.Lengths s → (t : ℕ) (op : Op) (ret : Ret) → NineKeeps s (M.on_invret s t op ret)
     -- each number exactly under its condition
     pub invoke_number : (s : M.Tester) (t : ℕ) (op : Op) (r : Recorded) → ((M.on_invoke s t op).0 ≡ r) ↔ InvokeWhen M s t op r
-    pub return_number : (s : M.Tester) (t : ℕ) (ret : Ret) (r : Recorded) → ((M.on_Return s t ret).0 ≡ r) ↔ ReturnWhen M s t ret r
+    pub return_number : (s : M.Tester) (t : ℕ) (ret : Ret) (r : Recorded) → ((M.on_return s t ret).0 ≡ r) ↔ ReturnWhen M s t ret r
     -- on_invret answers and leaves what the two calls in turn do; a refused invocation stands
     pub invret_is : (s : M.Tester) (t : ℕ) (op : Op) (ret : Ret) → M.on_invret s t op ret
-        ≡ pick (is_taken (M.on_invoke s t op).0) (M.on_Return (M.on_invoke s t op).1 t ret) (M.on_invoke s t op)
+        ≡ pick (is_taken (M.on_invoke s t op).0) (M.on_return (M.on_invoke s t op).1 t ret) (M.on_invoke s t op)
     -- a tester in shape reads as rows in shape, of as many operations as len says
     pub rows_in_shape : (s : M.Tester) → M.Lengths s → M.shaped s ≡ true → AllShaped families (tester_rows M s)
     pub len_is : (s : M.Tester) → M.Lengths s → M.shaped s ≡ true → M.len s ≡ operations families (tester_rows M s)
@@ -78,7 +78,7 @@ module _ (M : Model) where
     pub invoke_rows : (s : M.Tester) → M.Lengths s → M.shaped s ≡ true → (t : ℕ) (op : Op)
         → Leaves s (extend families (tester_rows M s) t (put families M.keep (tester_rows M s) t op)) (M.on_invoke s t op).0 (M.on_invoke s t op).1
     pub return_rows : (s : M.Tester) → M.Lengths s → M.shaped s ≡ true → (t : ℕ) (ret : Ret)
-        → Leaves s (close families (tester_rows M s) t ret) (M.on_Return s t ret).0 (M.on_Return s t ret).1
+        → Leaves s (close families (tester_rows M s) t ret) (M.on_return s t ret).0 (M.on_return s t ret).1
     -- fed from fresh, whatever the inputs, of the three calls in any order: the rows are those of the events recorded
     pub fed : (start : Object) (l : Inputs) → Fed families M.keep threads (taken M (M.new start) l) (tester_rows M (feed M (M.new start) l))
     -- validity is off exactly if some input drew 4 or 5 at its turn

@@ -46,10 +46,10 @@ module _ (M : Model) (L : Lawful M) where
       no_nine M s t (InvokeLeft M s t) e (op_three (kind_of (M.history s)) op) (M.on_invoke s t op).0
       ((invoke_exactly M L s t op (M.on_invoke s t op).0).0 refl)
 
-  pub no_nine_return : (s : M.Tester) → M.shaped s ≡ true → (t : ℕ) (ret : Ret) → number_of (M.on_Return s t ret).0 ≢ 9
+  pub no_nine_return : (s : M.Tester) → M.shaped s ≡ true → (t : ℕ) (ret : Ret) → number_of (M.on_return s t ret).0 ≢ 9
   no_nine_return s e t ret =
-      no_nine M s t (ReturnLeft M s t) e (ret_three (kind_of (M.history s)) ret) (M.on_Return s t ret).0
-      ((return_exactly M L s t ret (M.on_Return s t ret).0).0 refl)
+      no_nine M s t (ReturnLeft M s t) e (ret_three (kind_of (M.history s)) ret) (M.on_return s t ret).0
+      ((return_exactly M L s t ret (M.on_return s t ret).0).0 refl)
 
   pub no_nine_invret : (s : M.Tester) → Good M L s → (t : ℕ) (op : Op) (ret : Ret) → number_of (M.on_invret s t op ret).0 ≢ 9
   no_nine_invret s g t op ret e =
@@ -58,7 +58,7 @@ module _ (M : Model) (L : Lawful M) where
       next : M.Tester
       next = (M.on_invoke s t op).1
 
-      go : (b : Bool) → number_of (pick b (M.on_Return next t ret) (M.on_invoke s t op)).0 ≢ 9
+      go : (b : Bool) → number_of (pick b (M.on_return next t ret) (M.on_invoke s t op)).0 ≢ 9
       go true = no_nine_return next (good_shaped M L next (good_invoke M L s g t op)) t ret
       go false = no_nine_invoke s (good_shaped M L s g) t op
 
@@ -72,7 +72,7 @@ module _ (M : Model) (L : Lawful M) where
         ∙ ap (λ (b : Bool). ((invoke_of b (M.history s) t op).recorded, L.after_invoke s t (invoke_of b (M.history s) t op))) e
         ∙ ap (λ (x : M.Tester). (Refused OutOfShape, x)) (L.invoke_same s t (Refused OutOfShape) refl)
 
-    kept_return : (ret : Ret) → M.shaped s ≡ false → M.on_Return s t ret ≡ (Refused OutOfShape, s)
+    kept_return : (ret : Ret) → M.shaped s ≡ false → M.on_return s t ret ≡ (Refused OutOfShape, s)
     unfolding return_of
     kept_return ret e =
         L.returns s t ret
@@ -83,7 +83,7 @@ module _ (M : Model) (L : Lawful M) where
     unfolding is_taken
     kept_invret op ret e =
         L.invrets s t op ret
-        ∙ ap (λ (a : Recorded × M.Tester). pick (is_taken a.0) (M.on_Return a.1 t ret) a) (kept_invoke op e)
+        ∙ ap (λ (a : Recorded × M.Tester). pick (is_taken a.0) (M.on_return a.1 t ret) a) (kept_invoke op e)
 
     -- so that 9 is given exactly there
 
@@ -101,7 +101,7 @@ module _ (M : Model) (L : Lawful M) where
     pub nine_invoke : (op : Op) → NineKeeps M s (M.on_invoke s t op)
     nine_invoke op = nine (λ e. no_nine_invoke s e t op) (kept_invoke op)
 
-    pub nine_return : (ret : Ret) → NineKeeps M s (M.on_Return s t ret)
+    pub nine_return : (ret : Ret) → NineKeeps M s (M.on_return s t ret)
     nine_return ret = nine (λ e. no_nine_return s e t ret) (kept_return ret)
 
     pub nine_invret : M.Lengths s → (op : Op) (ret : Ret) → NineKeeps M s (M.on_invret s t op ret)

@@ -118,7 +118,7 @@ module _ (M : Model) (L : Lawful M) (s : M.Tester) (t : ℕ) where
       let e = ap (λ (a : Recorded × M.Tester). a.0) (L.invokes s t op) in
       (λ z. subst (InvokeWhen M s t op) (sym e ∙ z) (invoke_gives op), λ w. e ∙ invoke_given op r w)
 
-  pub return_exactly : (ret : Ret) (r : Recorded) → ((M.on_Return s t ret).0 ≡ r) ↔ ReturnWhen M s t ret r
+  pub return_exactly : (ret : Ret) (r : Recorded) → ((M.on_return s t ret).0 ≡ r) ↔ ReturnWhen M s t ret r
   return_exactly ret r =
       let e = ap (λ (a : Recorded × M.Tester). a.0) (L.returns s t ret) in
       (λ z. subst (ReturnWhen M s t ret) (sym e ∙ z) (return_gives ret), λ w. e ∙ return_given ret r w)

@@ -76,7 +76,7 @@ module _ (M : Model) where
           judge (barred e z) w = same _
           judge (passed a) w = run a w
 
-      pub good_return : (ret : Ret) → Good M L (M.on_Return s t ret).1
+      pub good_return : (ret : Ret) → Good M L (M.on_return s t ret).1
       good_return ret =
           let w = return_goes (M.shaped s) (M.history s) t ret in
           subst (λ (a : Recorded × M.Tester). Good M L a.1) (sym (L.returns s t ret)) (judge w.judge w.return)
@@ -105,7 +105,7 @@ module _ (M : Model) where
     good_invret s g t op ret =
         subst (λ (a : Recorded × M.Tester). Good M L a.1) (sym (L.invrets s t op ret)) (go (is_taken (M.on_invoke s t op).0) (good_invoke s g t op))
       where
-        go : (b : Bool) → Good M L (M.on_invoke s t op).1 → Good M L (pick b (M.on_Return (M.on_invoke s t op).1 t ret) (M.on_invoke s t op)).1
+        go : (b : Bool) → Good M L (M.on_invoke s t op).1 → Good M L (pick b (M.on_return (M.on_invoke s t op).1 t ret) (M.on_invoke s t op)).1
         go true h = good_return (M.on_invoke s t op).1 h t ret
         go false h = h
 

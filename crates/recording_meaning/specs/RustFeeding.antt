@@ -108,7 +108,7 @@ module _ (M : Model) (L : Lawful M) (R : InRust M) (along : TakesAlong M R) wher
   off_give s g (invret t op ret) e =
       let o = off_invoke e (invoke_turn M L s g t op) in
       let w : M.on_invret s t op ret ≡ M.on_invoke s t op
-      = L.invrets s t op ret ∙ ap (λ (r : Recorded). pick (is_taken r) (M.on_Return (M.on_invoke s t op).1 t ret) (M.on_invoke s t op)) o.0 in
+      = L.invrets s t op ret ∙ ap (λ (r : Recorded). pick (is_taken r) (M.on_return (M.on_invoke s t op).1 t ret) (M.on_invoke s t op)) o.0 in
       (ap (λ (a : Recorded × M.Tester). a.0) w ∙ o.0, ap (λ (a : Recorded × M.Tester). a.1) w ∙ o.1)
 
   -- what a return leaves stands for the tester after it
@@ -126,7 +126,7 @@ module _ (M : Model) (L : Lawful M) (R : InRust M) (along : TakesAlong M R) wher
       subst (Agrees M R (M.on_invoke s t op).0 (M.on_invoke s t op).1) (sym (invoke_as_rust M L R along s g t op c))
       (record { result = refl; stands = exactly })
   agrees s g exactly (return t ret) c =
-      subst (Agrees M R (M.on_Return s t ret).0 (M.on_Return s t ret).1) (sym (return_as_rust M L R along s g t ret c))
+      subst (Agrees M R (M.on_return s t ret).0 (M.on_return s t ret).1) (sym (return_as_rust M L R along s g t ret c))
       (record { result = refl; stands = left_stands (return_turn M L s g t ret) })
   agrees s g exactly (invret t op ret) c =
       subst (Agrees M R (M.on_invret s t op ret).0 (M.on_invret s t op ret).1) (sym (invret_as_rust M L R along s g t op ret c))

@@ -130,7 +130,7 @@ module _ (M : Model) (L : Lawful M) where
         begin : Step s (cond (is_taken first.0) (invoked t op ∷ []) []) (broke first.0) first.1
         begin = step_invoke (invoke_turn M L s g t op)
 
-        go : (b : Bool) → is_taken first.0 ≡ b → (let a = pick b (M.on_Return first.1 t ret) first in
+        go : (b : Bool) → is_taken first.0 ≡ b → (let a = pick b (M.on_return first.1 t ret) first in
             Step s (cond b (invoked t op ∷ cond (is_taken a.0) (returned t ret ∷ []) []) []) (broke a.0) a.1)
         go true e =
             step_both (rw (e, taken_keeps first.0 e) at begin) (step_return (return_turn M L first.1 (good_invoke M L s g t op) t ret))

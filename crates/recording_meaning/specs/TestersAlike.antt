@@ -43,7 +43,7 @@ module _ (M : Model) (L : Lawful M) where
       (good_shaped M L s g) in
       (ap (λ (a : Recorded × M.Tester). a.0) e, ap (λ (a : Recorded × M.Tester). M.history a.1) e ∙ L.invoke_history s t _)
 
-  comes_return : (s : M.Tester) → Good M L s → (t : ℕ) (ret : Ret) → Comes (M.on_Return s t ret) (return_of true (M.history s) t ret)
+  comes_return : (s : M.Tester) → Good M L s → (t : ℕ) (ret : Ret) → Comes (M.on_return s t ret) (return_of true (M.history s) t ret)
   comes_return s g t ret =
       let e = L.returns s t ret ∙ ap (λ (b : Bool). ((return_of b (M.history s) t ret).recorded, L.after_return s (return_of b (M.history s) t ret)))
       (good_shaped M L s g) in
@@ -61,7 +61,7 @@ module _ (M : Model) (L : Lawful M) where
       first = M.on_invoke s t op
 
       second : Recorded × M.Tester
-      second = M.on_Return first.1 t ret
+      second = M.on_return first.1 t ret
 
       begun : Step
       begun = invoke_of true (M.history s) t op

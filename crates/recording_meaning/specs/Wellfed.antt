@@ -121,7 +121,7 @@ module _ (M : Model) (L : Lawful M) where
       )
 
   takes_return : {s : M.Tester} {t : ℕ} {ret : Ret} {H : Events families} {end : Rows families} → Ready s (returned t ret ∷ H) end
-      → ((M.on_Return s t ret).0 ≡ Taken) × Ready (M.on_Return s t ret).1 H end
+      → ((M.on_return s t ret).0 ≡ Taken) × Ready (M.on_return s t ret).1 H end
   takes_return {s} {t} {ret} {H} {end} r =
       let f = feeds_return r.feeds in
       let a : Fine M s t (ret_said M s ret) = record {
@@ -151,8 +151,8 @@ module _ (M : Model) (L : Lawful M) where
   takes_input (invret t op ret) {s} {H} {end} r =
       let a = takes_invoke r in
       let b = takes_return a.1 in
-      let e : M.on_invret s t op ret ≡ M.on_Return (M.on_invoke s t op).1 t ret
-      = L.invrets s t op ret ∙ ap (λ (x : Recorded). pick (is_taken x) (M.on_Return (M.on_invoke s t op).1 t ret) (M.on_invoke s t op)) a.0 in
+      let e : M.on_invret s t op ret ≡ M.on_return (M.on_invoke s t op).1 t ret
+      = L.invrets s t op ret ∙ ap (λ (x : Recorded). pick (is_taken x) (M.on_return (M.on_invoke s t op).1 t ret) (M.on_invoke s t op)) a.0 in
       (rw (a.0, e, b.0), subst (λ (x : Recorded × M.Tester). Ready x.1 H end) (sym e) b.1)
 
   wellfed : (l : Inputs) {s : M.Tester} {end : Rows families} → Ready s (events_in l) end → Wellfed M s l end

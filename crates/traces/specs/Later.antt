@@ -24,7 +24,7 @@ module _ (M : Model) (W : Means M) (s : M.Tester) (sized : M.Lengths s) (shaped 
   ignored (invret t op ret) =
       let e = (W.invoke_number s t op (Refused AlreadyInvalid)).1 (shaped, off) in
       let stood : M.on_invret s t op ret ≡ M.on_invoke s t op
-      = W.invret_is s t op ret ∙ ap (λ (r : Recorded). pick (is_taken r) (M.on_Return (M.on_invoke s t op).1 t ret) (M.on_invoke s t op)) e in
+      = W.invret_is s t op ret ∙ ap (λ (r : Recorded). pick (is_taken r) (M.on_return (M.on_invoke s t op).1 t ret) (M.on_invoke s t op)) e in
       rw stood (e, (W.invoke_rows s sized shaped t op).refused (rw e) (rw e))
 
   pub all_ignored : (l : Inputs) → (map number_of (drawn M s l) ≡ replicate (length l) 1) × (feed M s l ≡ s)
