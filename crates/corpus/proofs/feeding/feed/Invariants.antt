@@ -1,0 +1,20 @@
+-- Each turn records the event that the file has next as the tester's own call would.
+use Prim.Native.Nat.{◌-◌, ◌<◌}
+use mathlib.Core.Path.{ap}
+use native.Mathlib.Omega.{arith}
+use lib.ListN.{length, drop}
+use borrow.Author.Rules.{rules}
+use Rattle.values.specs.Sizes.{threads, capacity}
+use Rattle.recording.specs.Testers.{linearizability}
+use Rattle.recording_meaning.specs.Models.{linearizability_model}
+use Rattle.corpus.specs.Load.{load_from}
+use Rattle.corpus.specs.LoadAnswers.{as_linearizability}
+use Rattle.corpus.proofs.Loop.{Feeding, feeding_new, feeding_ended, feeding_stopped, taken_further, taken_fits, feeding_taken}
+use Rattle.corpus.proofs.feeding.feed.Given as goal
+
+abbrev pub invariant-loop-at : goal.invariant-loop-at
+invariant-loop-at l =
+    Feeding l.kind l.file (load_from linearizability_model (length l.file) l.kind (drop l.first l.file) l.first (linearizability l.initial.history l.initial.notes)) l.history l.notes l.flying l.at
+
+abbrev pub decreases-loop-at : goal.decreases-loop-at
+decreases-loop-at l = length l.file - l.at

@@ -1,0 +1,6 @@
+-- Nobody has the return that stands where none is taken.
+use borrow.Author.Rules.{rules}
+use Rattle.judging.proofs.answer.nobody.Goals as goal
+
+pub returns : goal.returns
+returns c = simp c.no_ret-ret.ensures

@@ -1,0 +1,17 @@
+-- The notes are met if each thread's is.
+use Prim.Native.Nat.{ℕ, ◌≤◌, ◌<◌, ◌-◌}
+use mathlib.Core.Path.{sym}
+use lib.ListN.{get_or}
+use native.Mathlib.Omega.{arith}
+use borrow.Author.Rules.{rules}
+use borrow.Author.Count.{below_more}
+use Rattle.values.specs.Sizes.{threads}
+use Rattle.stepping.specs.Shape.{note_at}
+use Rattle.judging.proofs.Noting.{notes_met, note_unmet}
+use Rattle.judging.proofs.search.allowed.Given as goal
+
+abbrev pub invariant-loop-u : goal.invariant-loop-u
+invariant-loop-u l = (l.u ≤ threads) × ((v : ℕ) → v < l.u → note_at l.notes l.at v ≤ get_or l.progress v 0)
+
+abbrev pub decreases-loop-u : goal.decreases-loop-u
+decreases-loop-u l = threads - l.u

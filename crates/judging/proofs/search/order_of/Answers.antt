@@ -1,0 +1,81 @@
+-- Placing the path once more from the start gives each place its return.
+use Prim.Native.Nat.{◌-◌}
+use mathlib.Core.Path.{◌≡◌}
+use lib.ListN.{length}
+use native.Mathlib.Omega.{arith}
+use borrow.Author.Rules.{rules}
+use Rattle.values.specs.Sizes.{capacity}
+use Rattle.recording_meaning.specs.Parts.{parts_of}
+use Rattle.judging.specs.Playing.{situation}
+use Rattle.judging.proofs.Replaying.{Replaying, replay_start, own_low, p_few, slot_fits, at_low, replay_more, replay_end}
+use Rattle.judging.proofs.search.order_of.Goals as goal
+
+pub loop-d-init : goal.loop-d-init
+loop-d-init c =
+    let start = c in
+    let h = start.args.history in
+    let long : length start.args.path ≡ capacity = search rules in
+    replay_start h start.args.slot.now start.args.path start.args.depth (parts_of h start.requires.0).few start.requires.1.0 long start.requires.1.1.0
+    start.requires.1.1.1 _ c.held_of-held.ensures _ c.nobody-last.ensures
+
+pub bounds-path-d : goal.bounds-path-d
+bounds-path-d c = omega (arith, c.loop-d-test.true, c.loop-d.invariant.within)
+
+pub overflow_cast-own : goal.overflow_cast-own
+overflow_cast-own c = omega (arith, own_low c.loop-d.invariant c.loop-d-test.true)
+
+pub bounds-progress-own : goal.bounds-progress-own
+bounds-progress-own c = own_low c.loop-d.invariant c.loop-d-test.true
+
+pub overflow_mul-at : goal.overflow_mul-at
+overflow_mul-at c = omega (arith, own_low c.loop-d.invariant c.loop-d-test.true)
+
+pub overflow_cast-at : goal.overflow_cast-at
+overflow_cast-at c = omega (arith, p_few c.loop-d.invariant c.loop-d-test.true)
+
+pub overflow_add-at : goal.overflow_add-at
+overflow_add-at c = omega (arith, slot_fits c.loop-d.invariant c.loop-d-test.true)
+
+pub bounds-slot-own : goal.bounds-slot-own
+bounds-slot-own c = slot_fits c.loop-d.invariant c.loop-d-test.true
+
+pub offset_bounds-history-at : goal.offset_bounds-history-at
+offset_bounds-history-at c = omega (arith, at_low c.loop-d.invariant c.loop-d-test.true)
+
+pub bounds-history-at : goal.bounds-history-at
+bounds-history-at c = at_low c.loop-d.invariant c.loop-d-test.true
+
+pub offset_bounds-order-d : goal.offset_bounds-order-d
+offset_bounds-order-d c = omega (arith, c.loop-d-test.true, c.loop-d.invariant.within)
+
+pub bounds-order-d : goal.bounds-order-d
+bounds-order-d c = omega (arith, c.loop-d-test.true, c.loop-d.invariant.within)
+
+pub overflow_add-progress : goal.overflow_add-progress
+overflow_add-progress c =
+    let at-loop = c in
+    omega (arith, p_few at-loop.before.loop.invariant at-loop.loop-test.true)
+
+pub bounds-progress-own-in-loop-d : goal.bounds-progress-own-in-loop-d
+bounds-progress-own-in-loop-d c =
+    let at-loop = c in
+    own_low at-loop.before.loop.invariant at-loop.loop-test.true
+
+pub overflow_add-d : goal.overflow_add-d
+overflow_add-d c =
+    let at-loop = c in
+    omega (arith, at-loop.loop-test.true, at-loop.before.loop.invariant.within)
+
+pub loop-d-smaller : goal.loop-d-smaller
+loop-d-smaller c = omega (arith, c.loop-d-test.true)
+
+pub loop-d-preserved : goal.loop-d-preserved
+loop-d-preserved c =
+    let at-loop = c in
+    let given = c.given-ret in
+    let act = c.act-acted in
+    replay_more at-loop.before.loop.invariant at-loop.loop-test.true given.result given.ensures act.result act.ensures.0 act.new.0
+    act.ensures.1
+
+pub returns : goal.returns
+returns c = replay_end c.loop-d.invariant c.loop-d-test.false

@@ -1,0 +1,17 @@
+-- Placing the path once more from the start gives each place its return.
+use Prim.Native.Nat.{◌-◌}
+use mathlib.Core.Path.{◌≡◌}
+use lib.ListN.{length}
+use native.Mathlib.Omega.{arith}
+use borrow.Author.Rules.{rules}
+use Rattle.values.specs.Sizes.{capacity}
+use Rattle.recording_meaning.specs.Parts.{parts_of}
+use Rattle.judging.specs.Playing.{situation}
+use Rattle.judging.proofs.Replaying.{Replaying, replay_start, own_low, p_few, slot_fits, at_low, replay_more, replay_end}
+use Rattle.judging.proofs.search.order_of.Given as goal
+
+abbrev pub invariant-loop-d : goal.invariant-loop-d
+invariant-loop-d l = Replaying l.history l.slot l.path l.depth (situation l.items l.held l.progress) l.order l.d
+
+abbrev pub decreases-loop-d : goal.decreases-loop-d
+decreases-loop-d l = l.depth - l.d
