@@ -9,6 +9,7 @@ use Rattle.values.specs.Sizes.{capacity}
 use Rattle.stepping.specs.RecordLaws.{unmapped}
 use Rattle.witness.proofs.Finding.{Finding, find_start, found, find_own, find_other, find_end}
 use Rattle.witness.proofs.replay.find.Goals as goal
+use Rattle.witness.proofs.replay.find.Goals.{then-o-thread+else-left-eq0, else-o-thread}
 
 pub loop-i-init : goal.loop-i-init
 loop-i-init c = find_start c.args.history c.args.thread c.args.number
@@ -30,20 +31,19 @@ returns-then-left-eq0 c =
 
 pub loop-i-preserved : goal.loop-i-preserved
 loop-i-preserved c =
-    let start = c in
-    let at-loop = c.loop-i in
-    let h = start.args.history in
-    let t = start.args.thread in
-    let k = start.args.number in
+    let h = c.args.history in
+    let t = c.args.thread in
+    let k = c.args.number in
+    let i = c.loop-i.i in
     let l = c.loop-i-test.true in
     let long : length h.ops ≡ capacity = search rules in
-    let enough : h.count ≤ length h.ops = omega (arith, long, start.requires) in
-    ⊎_elim
-    (λ w. subst (λ (n : ℕ). Finding h t k n (at-loop.i + 1)) (sym w.2)
-    (find_own h enough t k at-loop.left at-loop.i at-loop.invariant l w.0.taken w.1.left))
-    (λ w. subst (λ (n : ℕ). Finding h t k n (at-loop.i + 1)) (sym w.1)
-    (find_other h enough t k at-loop.left at-loop.i at-loop.invariant l w.0.left))
-    c.if-o-thread.branch
+    let enough : h.count ≤ length h.ops = omega (arith, long, c.requires) in
+    elim c.if-o-thread.branch [
+      then-o-thread+else-left-eq0 w ↦ subst (λ (n : ℕ). Finding h t k n (i + 1)) (sym w.left-is)
+          (find_own h enough t k c.loop-i.left i c.loop-i.invariant l w.if-o-thread.true w.if-left-eq0.false)
+    | else-o-thread w ↦ subst (λ (n : ℕ). Finding h t k n (i + 1)) (sym w.left-is)
+        (find_other h enough t k c.loop-i.left i c.loop-i.invariant l w.if-o-thread.false)
+    ]
 
 pub returns : goal.returns
 returns c =
