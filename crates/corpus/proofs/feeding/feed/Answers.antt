@@ -76,23 +76,20 @@ bounds-flying-t c =
 
 pub overflow_add-at : goal.overflow_add-at
 overflow_add-at c =
-    let turn = c in
-    let end = taken_further turn.loop-at.inv turn.loop-at-test.taken
-    turn.turn_at-turn.ensures turn.in-Taken.is in
-    omega (arith, end, turn.pre.1)
+    let end = taken_further c.loop-at.invariant c.loop-at-test.true
+    c.turn_at-turn.ensures c.in-Taken.is in
+    omega (arith, end, c.requires.1)
 
 pub loop-at-smaller : goal.loop-at-smaller
 loop-at-smaller c =
-    let turn = c in
-    let end = taken_further turn.loop-at.inv turn.loop-at-test.taken
-    turn.turn_at-turn.ensures turn.in-Taken.is in
+    let end = taken_further c.loop-at.invariant c.loop-at-test.true
+    c.turn_at-turn.ensures c.in-Taken.is in
     omega (arith, end)
 
 pub loop-at-preserved : goal.loop-at-preserved
 loop-at-preserved c =
-    let turn = c in
-    feeding_taken turn.loop-at.inv turn.loop-at-test.taken
-    turn.turn_at-turn.ensures turn.in-Taken.is c.thread_of-t.ensures
+    feeding_taken c.loop-at.invariant c.loop-at-test.true
+    c.turn_at-turn.ensures c.in-Taken.is c.thread_of-t.ensures
     c.change_of-change.ensures c.note_change.ensures
 
 pub returns : goal.returns
