@@ -12,11 +12,10 @@ use Rattle.judging.proofs.search.order_of.Goals as goal
 
 pub loop-d-init : goal.loop-d-init
 loop-d-init c =
-    let start = c in
-    let h = start.args.history in
-    let long : length start.args.path ≡ capacity = search rules in
-    replay_start h start.args.slot.now start.args.path start.args.depth (parts_of h start.requires.0).few start.requires.1.0 long start.requires.1.1.0
-    start.requires.1.1.1 _ c.held_of-held.ensures _ c.nobody-last.ensures
+    let h = c.args.history in
+    let long : length c.args.path ≡ capacity = search rules in
+    replay_start h c.args.slot.now c.args.path c.args.depth (parts_of h c.requires.history_value).few c.requires.slotted long c.requires.depth_le_capacity.0
+    c.requires.depth_le_capacity.1 _ c.held_of-held.ensures _ c.nobody-last.ensures
 
 pub bounds-path-d : goal.bounds-path-d
 bounds-path-d c = omega (arith, c.loop-d-test.true, c.loop-d.invariant.within)
@@ -53,29 +52,25 @@ bounds-order-d c = omega (arith, c.loop-d-test.true, c.loop-d.invariant.within)
 
 pub overflow_add-progress : goal.overflow_add-progress
 overflow_add-progress c =
-    let at-loop = c in
-    omega (arith, p_few at-loop.before.loop.invariant at-loop.loop-test.true)
+    omega (arith, p_few c.loop-d.invariant c.loop-d-test.true)
 
 pub bounds-progress-own-in-loop-d : goal.bounds-progress-own-in-loop-d
 bounds-progress-own-in-loop-d c =
-    let at-loop = c in
-    own_low at-loop.before.loop.invariant at-loop.loop-test.true
+    own_low c.loop-d.invariant c.loop-d-test.true
 
 pub overflow_add-d : goal.overflow_add-d
 overflow_add-d c =
-    let at-loop = c in
-    omega (arith, at-loop.loop-test.true, at-loop.before.loop.invariant.within)
+    omega (arith, c.loop-d-test.true, c.loop-d.invariant.within)
 
 pub loop-d-smaller : goal.loop-d-smaller
 loop-d-smaller c = omega (arith, c.loop-d-test.true)
 
 pub loop-d-preserved : goal.loop-d-preserved
 loop-d-preserved c =
-    let at-loop = c in
     let given = c.given-ret in
     let act = c.act-acted in
-    replay_more at-loop.before.loop.invariant at-loop.loop-test.true given.result given.ensures act.result act.ensures.0 act.new.0
-    act.ensures.1
+    replay_more c.loop-d.invariant c.loop-d-test.true given.result given.ensures act.result act.ensures.value act.new.items
+    act.ensures.after
 
 pub returns : goal.returns
 returns c = replay_end c.loop-d.invariant c.loop-d-test.false

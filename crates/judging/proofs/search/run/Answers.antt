@@ -13,15 +13,11 @@ use Rattle.judging.proofs.search.run.Goals as goal
 
 pub loop-left-init : goal.loop-left-init
 loop-left-init c =
-    let start = c in
-    let h = start.args.history in
-    let good = start.well-formed.0.1.1 in
-    let sized : Sized h = record {
-      places = sym (length-map h.ops _) ∙ good.1.0.1.0.1;
-      counters = sym (length-map h.done _) ∙ good.1.1.1.0.1.0.1;
-    } in
-    let full : length h.start.items ≡ room = sym (length-map h.start.items _) ∙ good.0.1.1.1.0.1.0.1 in
-    running_start _ h _ _ _ _ _ _ _ c.held_of-held.ensures start.requires.1.1.0 sized full start.requires.0 start.requires.1.0 start.requires.1.1.1 refl
+    let h = c.args.history in
+    let sized : Sized h = record { places = search rules; counters = search rules } in
+    let full : length h.start.items ≡ room = search rules in
+    running_start _ h _ _ _ _ _ _ _ c.held_of-held.ensures c.requires.returned_value.0 sized full c.requires.history_value c.requires.indexed
+    c.requires.returned_value.1 refl
 
 pub returns-then-left-eq0 : goal.returns-then-left-eq0
 returns-then-left-eq0 c = found c.loop-left.invariant c.if-left-eq0.true
@@ -31,73 +27,61 @@ ready-k-requires c = next_small c.loop-left.invariant
 
 pub returns-then-attempts-budget : goal.returns-then-attempts-budget
 returns-then-attempts-budget c =
-    let t = c in
-    used t.loop-left.invariant t.if-left-eq0.false _ t.ready-k.ensures t.if-k-lt-THREADS.true c.if-attempts-budget.true
+    used c.loop-left.invariant c.if-left-eq0.false _ c.ready-k.ensures c.if-k-lt-THREADS.true c.if-attempts-budget.true
 
 pub overflow_add-attempts : goal.overflow_add-attempts
 overflow_add-attempts c = omega (arith, within c.loop-left.invariant)
 
 pub overflow_cast-at : goal.overflow_cast-at
 overflow_cast-at c =
-    let t = c in
-    omega (arith, progress_small t.loop-left.invariant t.if-left-eq0.false _ t.ready-k.ensures t.if-k-lt-THREADS.true)
+    omega (arith, progress_small c.loop-left.invariant c.if-left-eq0.false _ c.ready-k.ensures c.if-k-lt-THREADS.true)
 
 pub overflow_add-at : goal.overflow_add-at
 overflow_add-at c =
-    let t = c in
-    omega (arith, slot_at t.loop-left.invariant t.if-left-eq0.false _ t.ready-k.ensures t.if-k-lt-THREADS.true)
+    omega (arith, slot_at c.loop-left.invariant c.if-left-eq0.false _ c.ready-k.ensures c.if-k-lt-THREADS.true)
 
 pub bounds-slot-k : goal.bounds-slot-k
 bounds-slot-k c =
-    let t = c in
-    slot_at t.loop-left.invariant t.if-left-eq0.false _ t.ready-k.ensures t.if-k-lt-THREADS.true
+    slot_at c.loop-left.invariant c.if-left-eq0.false _ c.ready-k.ensures c.if-k-lt-THREADS.true
 
 pub offset_bounds-history-at : goal.offset_bounds-history-at
 offset_bounds-history-at c =
-    let t = c in
-    omega (arith, here_small t.loop-left.invariant t.if-left-eq0.false _ t.ready-k.ensures t.if-k-lt-THREADS.true)
+    omega (arith, here_small c.loop-left.invariant c.if-left-eq0.false _ c.ready-k.ensures c.if-k-lt-THREADS.true)
 
 pub bounds-history-at : goal.bounds-history-at
 bounds-history-at c =
-    let t = c in
-    here_small t.loop-left.invariant t.if-left-eq0.false _ t.ready-k.ensures t.if-k-lt-THREADS.true
+    here_small c.loop-left.invariant c.if-left-eq0.false _ c.ready-k.ensures c.if-k-lt-THREADS.true
 
 pub allowed-requires : goal.allowed-requires
 allowed-requires c =
-    let t = c in (
-      here_small t.loop-left.invariant t.if-left-eq0.false _ t.ready-k.ensures t.if-k-lt-THREADS.true,
-      (fits t.loop-left.invariant).progress_long,
+    (
+      here_small c.loop-left.invariant c.if-left-eq0.false _ c.ready-k.ensures c.if-k-lt-THREADS.true,
+      (fits c.loop-left.invariant).progress_long,
     )
 
 pub offset_bounds-levels-depth : goal.offset_bounds-levels-depth
 offset_bounds-levels-depth c =
-    let t = c in
-    omega (arith, deeper t.loop-left.invariant t.if-left-eq0.false _ t.ready-k.ensures t.if-k-lt-THREADS.true)
+    omega (arith, deeper c.loop-left.invariant c.if-left-eq0.false _ c.ready-k.ensures c.if-k-lt-THREADS.true)
 
 pub bounds-levels-depth : goal.bounds-levels-depth
 bounds-levels-depth c =
-    let t = c in
-    deeper t.loop-left.invariant t.if-left-eq0.false _ t.ready-k.ensures t.if-k-lt-THREADS.true
+    deeper c.loop-left.invariant c.if-left-eq0.false _ c.ready-k.ensures c.if-k-lt-THREADS.true
 
 pub bounds-path-depth : goal.bounds-path-depth
 bounds-path-depth c =
-    let t = c in
-    deeper t.loop-left.invariant t.if-left-eq0.false _ t.ready-k.ensures t.if-k-lt-THREADS.true
+    deeper c.loop-left.invariant c.if-left-eq0.false _ c.ready-k.ensures c.if-k-lt-THREADS.true
 
 pub overflow_add-depth : goal.overflow_add-depth
 overflow_add-depth c =
-    let t = c in
-    omega (arith, deeper t.loop-left.invariant t.if-left-eq0.false _ t.ready-k.ensures t.if-k-lt-THREADS.true)
+    omega (arith, deeper c.loop-left.invariant c.if-left-eq0.false _ c.ready-k.ensures c.if-k-lt-THREADS.true)
 
 pub overflow_add-progress : goal.overflow_add-progress
 overflow_add-progress c =
-    let t = c in
-    omega (arith, progress_small t.loop-left.invariant t.if-left-eq0.false _ t.ready-k.ensures t.if-k-lt-THREADS.true)
+    omega (arith, progress_small c.loop-left.invariant c.if-left-eq0.false _ c.ready-k.ensures c.if-k-lt-THREADS.true)
 
 pub overflow_sub-left : goal.overflow_sub-left
 overflow_sub-left c =
-    let t = c in
-    omega (arith, left_enough t.loop-left.invariant t.if-left-eq0.false _ t.ready-k.ensures t.if-k-lt-THREADS.true, c.counted-left.ensures.0)
+    omega (arith, left_enough c.loop-left.invariant c.if-left-eq0.false _ c.ready-k.ensures c.if-k-lt-THREADS.true, c.counted-left.ensures.0)
 
 pub loop-left-smaller-then-fits : goal.loop-left-smaller-then-fits
 loop-left-smaller-then-fits c = omega (arith, within c.loop-left.invariant)
@@ -112,7 +96,7 @@ loop-left-preserved-then-fits c =
     c.if-k-lt-THREADS.true
     c.if-attempts-budget.false
     (sym c.allowed.ensures ∙ c.if-allowed.true)
-    (sym c.fits2.ensures ∙ c.if-fits.true)
+    (sym c.fits.ensures ∙ c.if-fits.true)
     _ _ _
     c.act-acted.ensures.value
     c.act-acted.ensures.after
@@ -131,21 +115,19 @@ loop-left-preserved-else-fits c =
     c.if-k-lt-THREADS.true
     c.if-attempts-budget.false
     (sym c.allowed.ensures ∙ c.if-allowed.true)
-    (sym c.fits2.ensures ∙ c.if-fits.false)
+    (sym c.fits.ensures ∙ c.if-fits.false)
 
 pub loop-left-smaller-else-allowed : goal.loop-left-smaller-else-allowed
 loop-left-smaller-else-allowed c = omega (arith, within c.loop-left.invariant)
 
 pub loop-left-preserved-else-allowed : goal.loop-left-preserved-else-allowed
 loop-left-preserved-else-allowed c =
-    let t = c in
-    turn_early t.loop-left.invariant t.if-left-eq0.false _ t.ready-k.ensures t.if-k-lt-THREADS.true
+    turn_early c.loop-left.invariant c.if-left-eq0.false _ c.ready-k.ensures c.if-k-lt-THREADS.true
     c.if-attempts-budget.false (sym c.allowed.ensures ∙ c.if-allowed.false)
 
 pub returns-then-depth-eq0 : goal.returns-then-depth-eq0
 returns-then-depth-eq0 c =
-    let t = c in
-    exhausted t.loop-left.invariant t.if-left-eq0.false _ t.ready-k.ensures t.if-k-lt-THREADS.false c.if-depth-eq0.true
+    exhausted c.loop-left.invariant c.if-left-eq0.false _ c.ready-k.ensures c.if-k-lt-THREADS.false c.if-depth-eq0.true
 
 pub offset_bounds-levels-depth-else-k-lt-THREADS : goal.offset_bounds-levels-depth-else-k-lt-THREADS
 offset_bounds-levels-depth-else-k-lt-THREADS c = omega (arith, depth_small c.loop-left.invariant)
@@ -173,6 +155,5 @@ loop-left-smaller c = omega arith
 
 pub loop-left-preserved : goal.loop-left-preserved
 loop-left-preserved c =
-    let t = c in
-    turn_undone t.loop-left.invariant c.if-depth-eq0.false t.if-left-eq0.false _
-    t.ready-k.ensures t.if-k-lt-THREADS.false _ c.take_back.ensures
+    turn_undone c.loop-left.invariant c.if-depth-eq0.false c.if-left-eq0.false _
+    c.ready-k.ensures c.if-k-lt-THREADS.false _ c.take_back.ensures

@@ -10,24 +10,22 @@ use Rattle.judging.proofs.search.search.Goals as goal
 
 pub run-stopped-requires : goal.run-stopped-requires
 run-stopped-requires c =
-    let at-index-of = c in
-    record { history_value = at-index-of.before.requires; indexed = at-index-of.index_of.ensures; returned_value = (c.completed-returned.ensures, refl) }
+    record { history_value = c.requires; indexed = c.index_of-index.ensures; returned_value = (c.completed-returned.ensures, refl) }
 
 pub order_of-order-requires : goal.order_of-order-requires
 order_of-order-requires c =
     let run = c.run-stopped in
-    let at-index-of = c in
-    let a = at-index-of.before.args in
-    let found = stopped_order (judged_of (notes_of a.notes.now) a.history a.budget) a.history run.new.1.1.1.1.1.0 run.result
+    let a = c.args in
+    let found = stopped_order (judged_of (notes_of a.notes.now) a.history a.budget) a.history run.new.path run.result
     run.ensures c.in-Order.is in
-    record { history_value = at-index-of.before.requires; slotted = at-index-of.index_of.ensures.at; depth_le_capacity = (found.within, found.playable) }
+    record { history_value = c.requires; slotted = c.index_of-index.ensures.at; depth_le_capacity = (found.within, found.playable) }
 
 pub returns-in-Order : goal.returns-in-Order
 returns-in-Order c =
     let a = c.args in
     let run = c.run-stopped in
     let j = judged_of (notes_of a.notes.now) a.history a.budget in
-    let path = run.new.1.1.1.1.1.0 in
+    let path = run.new.path in
     let is_order = c.in-Order.is in
     let found = stopped_order j a.history path run.result run.ensures is_order in
     let long : length c.order_of-order.result ≡ capacity = search rules in
@@ -39,7 +37,7 @@ returns-in-NoOrder c =
     let a = c.args in
     let run = c.run-stopped in
     c.without_order.ensures
-    ∙ stopped_without (judged_of (notes_of a.notes.now) a.history a.budget) a.history run.new.1.1.1.1.1.0 run.result run.ensures
+    ∙ stopped_without (judged_of (notes_of a.notes.now) a.history a.budget) a.history run.new.path run.result run.ensures
     (ap is_consistent c.in-NoOrder.is)
 
 pub returns-in-Undecided : goal.returns-in-Undecided
@@ -48,7 +46,7 @@ returns-in-Undecided c =
     let a = c.args in
     let run = c.run-stopped in
     c.without_order-in-Undecided.ensures
-    ∙ stopped_without (judged_of (notes_of a.notes.now) a.history a.budget) a.history run.new.1.1.1.1.1.0 run.result run.ensures
+    ∙ stopped_without (judged_of (notes_of a.notes.now) a.history a.budget) a.history run.new.path run.result run.ensures
     (ap is_consistent c.in-Undecided.is)
 
 pub returns-in-Invalid : goal.returns-in-Invalid
@@ -57,5 +55,5 @@ returns-in-Invalid c =
     let a = c.args in
     let run = c.run-stopped in
     c.without_order-in-Invalid.ensures
-    ∙ stopped_without (judged_of (notes_of a.notes.now) a.history a.budget) a.history run.new.1.1.1.1.1.0 run.result run.ensures
+    ∙ stopped_without (judged_of (notes_of a.notes.now) a.history a.budget) a.history run.new.path run.result run.ensures
     (ap is_consistent c.in-Invalid.is)

@@ -10,6 +10,7 @@ use Rattle.judging.specs.Answers.{told_of}
 use Rattle.judging.specs.Unnoted.{zeros_ask_nothing}
 use Rattle.judging.proofs.Answering.{judge_by}
 use Rattle.judging.proofs.sequential_consistency.judge.Goals as goal
+use Rattle.judging.proofs.sequential_consistency.judge.Goals.{then-is_in_shape+else-history, else-is_in_shape}
 
 pub search-requires : goal.search-requires
 search-requires c = sym c.is_in_shape.ensures ∙ c.if-is_in_shape.true
@@ -27,7 +28,7 @@ returns c =
     let a = c.args in
     let shaped = c.is_in_shape.ensures in
     c.without_order.ensures
-    ∙ ⊎_elim
-    (λ w. judge_by sequential_model a.tester a.budget true false (sym shaped ∙ w.0.taken) w.2.left)
-    (λ w. judge_by sequential_model a.tester a.budget false a.tester.history.valid (sym shaped ∙ w.left) refl)
-    c.if-is_in_shape.branch
+    ∙ elim c.if-is_in_shape.branch [
+      then-is_in_shape+else-history w ↦ judge_by sequential_model a.tester a.budget true false (sym shaped ∙ w.if-is_in_shape.true) w.if-history.false
+    | else-is_in_shape w ↦ judge_by sequential_model a.tester a.budget false a.tester.history.valid (sym shaped ∙ w.if-is_in_shape.false) refl
+    ]
