@@ -1,0 +1,23 @@
+use Prim.Native.Nat.{◌≤◌, ◌-◌}
+use mathlib.Core.Path.{◌≡◌, refl}
+use native.Mathlib.Numerals.{add-one}
+use native.Mathlib.Omega.{arith}
+use lib.ListN.{length, length-set}
+use lib.Seq.{paste, paste-zero, paste-suc}
+use borrow.Author.Rules.{rules}
+use Rattle.host.proofs.bytes.put_in.Goals as goal
+
+pub loop-i-init : goal.loop-i-init
+loop-i-init c = (search rules, refl, paste-zero c.args.dst.now c.args.at c.args.src.now)
+
+pub loop-i-preserved : goal.loop-i-preserved
+loop-i-preserved c =
+    let a = c.args in
+    let l = c.loop-i in (
+      search rules,
+      simp length-set l.invariant.1,
+      rw (l.invariant.2, add-one) (paste-suc a.dst.now a.at a.src.now l.i 0 (omega arith) (omega arith)),
+    )
+
+pub returns : goal.returns
+returns c = let e : c.loop-i.i ≡ length c.args.src.now = omega arith in rw e at c.loop-i.invariant.2

@@ -1,0 +1,17 @@
+-- What the judge answers is told field by field.
+use native.Mathlib.Omega.{arith}
+use borrow.Author.Rules.{rules}
+use Rattle.values.specs.Sizes.{capacity}
+use Rattle.stepping.specs.RecordLaws.{unmapped}
+use Rattle.host.specs.Call.{judged_report}
+use Rattle.host.proofs.report.judged.Goals as goal
+
+pub overflow_cast-result : goal.overflow_cast-result
+overflow_cast-result c =
+    let start = c in
+    let a = start.args.answer in
+    omega (arith, start.requires, search rules)
+
+pub returns : goal.returns
+unfolding judged_report
+returns c = simp (← c.threads_of.ensures, ← c.number.ensures)

@@ -1,0 +1,17 @@
+-- The threads of the places taken come first, and nobody behind them.
+use Prim.Native.Nat.{◌-◌}
+use mathlib.Core.Path.{refl}
+use native.Mathlib.Omega.{arith}
+use borrow.Author.Rules.{rules}
+use Rattle.values.specs.Sizes.{capacity}
+use Rattle.host.proofs.Threading.{Filled, filled_more, filled_end}
+use Rattle.host.proofs.report.threads_of.Goals as goal
+
+pub loop-i-init : goal.loop-i-init
+loop-i-init c = (omega arith, refl, refl)
+
+pub loop-i-preserved : goal.loop-i-preserved
+loop-i-preserved c = filled_more c.args.order c.well-formed.0.1.0.1 _ c.loop-i.threads c.loop-i.i c.loop-i-test.true c.loop-i.invariant
+
+pub returns : goal.returns
+returns c = filled_end c.args.order c.well-formed.0.1.0.1 c.loop-i.threads c.loop-i.i c.loop-i-test.false c.loop-i.invariant
