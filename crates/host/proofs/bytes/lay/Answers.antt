@@ -17,4 +17,4 @@ returns c =
     let h = c.head_of-head in
     let first = c.put_in in
     let second = c.put_in-2 in
-    laid a.report a.answer.now h.result first.new.0 second.new.0 (search rules) h.ensures first.ensures second.ensures
+    laid a.report a.answer.now h.result first.new.dst second.new.dst (search rules) h.ensures first.ensures second.ensures

@@ -1,6 +1,7 @@
 -- What the judge answers is told field by field.
 use native.Mathlib.Omega.{arith}
 use borrow.Author.Rules.{rules}
+use Rattle.std.proofs.Common.{◌≡◌, length}
 use Rattle.values.specs.Sizes.{capacity}
 use Rattle.stepping.specs.RecordLaws.{unmapped}
 use Rattle.host.specs.Call.{judged_report}
@@ -8,9 +9,8 @@ use Rattle.host.proofs.report.judged.Goals as goal
 
 pub overflow_cast-result : goal.overflow_cast-result
 overflow_cast-result c =
-    let start = c in
-    let a = start.args.answer in
-    omega (arith, start.requires, search rules)
+    let long : length c.args.answer.order ≡ capacity = search rules in
+    omega (arith, c.requires, long)
 
 pub returns : goal.returns
 unfolding judged_report

@@ -11,7 +11,7 @@ pub loop-i-init : goal.loop-i-init
 loop-i-init c = (omega arith, refl, refl)
 
 pub loop-i-preserved : goal.loop-i-preserved
-loop-i-preserved c = filled_more c.args.order c.well-formed.0.1.0.1 _ c.loop-i.threads c.loop-i.i c.loop-i-test.true c.loop-i.invariant
+loop-i-preserved c = filled_more c.args.order (search rules) _ c.loop-i.threads c.loop-i.i c.loop-i-test.true c.loop-i.invariant
 
 pub returns : goal.returns
-returns c = filled_end c.args.order c.well-formed.0.1.0.1 c.loop-i.threads c.loop-i.i c.loop-i-test.false c.loop-i.invariant
+returns c = filled_end c.args.order (search rules) c.loop-i.threads c.loop-i.i c.loop-i-test.false c.loop-i.invariant
