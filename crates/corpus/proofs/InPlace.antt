@@ -1,11 +1,7 @@
 -- Recording in place: what the loader does with an event is what the tester's call does.
-use Prim.Native.Nat.{ℕ, ◌+◌}
-use mathlib.Core.Path.{◌≡◌, refl, sym, ap, ◌∙◌, subst}
-use mathlib.Core.Bool.{Bool, true, false}
-use mathlib.Core.List.{List}
-use native.Mathlib.Omega.{arith}
-use borrow.Author.Tests.{ne_eqb}
-use lib.ListN.{length, set, replicate, length-set, length-replicate}
+use Rattle.std.proofs.Common.{ℕ, ◌+◌, ◌≡◌, refl, sym, ap, ◌∙◌, subst, Bool, true, false, List, arith, ne_eqb, length, replicate, length-set}
+use Rattle.std.specs.Prelude.{set}
+use Rattle.std.proofs.lemmas.List.{length-replicate}
 use Rattle.values.specs.Value.{pick}
 use Rattle.values.specs.Sizes.{threads}
 use Rattle.families.specs.Refusals.{start_check}

@@ -1,9 +1,7 @@
 -- The loader's loop: what is left of the file comes to what the whole does, and the tester in hand stands as recording in place needs it.
-use Prim.Native.Nat.{ℕ, ◌+◌, ◌<◌, ◌≤◌}
-use mathlib.Core.Path.{◌≡◌, refl, sym, ap, ◌∙◌}
-use mathlib.Core.Bool.{Bool, true}
-use mathlib.Core.List.{List}
-use lib.ListN.{length, drop, get_or, set, replicate}
+use Rattle.std.proofs.Common.{ℕ, ◌+◌, ◌<◌, ◌≤◌, ◌≡◌, refl, sym, ap, ◌∙◌, Bool, true, List, length, drop, replicate}
+use Rattle.std.proofs.Math.ListN.{get_or}
+use Rattle.std.specs.Prelude.{set}
 use Rattle.values.specs.Sizes.{threads, capacity}
 use Rattle.families.specs.declared.Kind.{Kind}
 use Rattle.families.specs.declared.event.Event.{Event as CEvent}

@@ -1,14 +1,8 @@
 -- The values of a start, one after the other.
-use Prim.Native.Nat.{ℕ, suc, ◌+◌, ◌-◌, ◌<◌, ◌≤◌, ◌^◌}
-use mathlib.Core.Path.{◌≡◌, ◌∙◌}
-use mathlib.Core.List.{List}
-use native.Mathlib.Omega.{arith}
-use lib.IntN.{ℤ}
-use lib.ListN.{set}
-use lib.Signed.{mag}
-use mir.Syntax.{w32}
-use mir.Val.{to_z, of_z, hbits}
-use mir.Facts.{to_z-of_z}
+use Rattle.std.proofs.Common.{ℕ, suc, ◌+◌, ◌-◌, ◌<◌, ◌≤◌, ◌^◌, ◌≡◌, ◌∙◌, List, arith, ℤ, w32, to_z, of_z, to_z-of_z}
+use Rattle.std.specs.Prelude.{set}
+use Rattle.std.specs.Int.Signed.{mag}
+use mir.Val.{hbits}
 use Rattle.values.specs.Value.{signed}
 use Rattle.numbers.specs.declared.refusal.Refusal.{Refusal}
 use Rattle.numbers.specs.Reader.{got, refused, from}

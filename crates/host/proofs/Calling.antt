@@ -1,9 +1,5 @@
 -- The ends of the call: nothing is written, or the report.
-use Prim.Native.Nat.{ℕ, suc}
-use mathlib.Core.Path.{◌≡◌, sym, ap, ◌∙◌}
-use mathlib.Core.List.{List, ◌++◌}
-use native.Mathlib.Omega.{arith}
-use lib.ListN.{drop}
+use Rattle.std.proofs.Common.{ℕ, suc, ◌≡◌, sym, ap, ◌∙◌, List, ◌++◌, arith, drop}
 use Rattle.host.specs.declared.report.Report.{Report}
 use Rattle.host.specs.Call.{report_of, bytes_of, answer_size, model_of, call_number, call_answer}
 use Rattle.host.specs.CallMeant.{calls}

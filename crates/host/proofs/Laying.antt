@@ -1,12 +1,6 @@
 -- Bytes of a number by shifts, and the two parts of an answer laid one after the other.
-use Prim.Native.Nat.{ℕ, zero, suc, ◌+◌, ◌*◌, ◌/◌, ◌%◌, ◌^◌}
-use mathlib.Core.Path.{◌≡◌, refl, sym, ap, ◌∙◌}
-use mathlib.Core.List.{List, [], ◌∷◌, ◌++◌}
-use native.Mathlib.Nat.{div-one}
-use native.Mathlib.Omega.{arith}
-use lib.ListN.{length, take, drop}
-use lib.Pow.{shr-shr}
-use lib.Seq.{paste, take_all, take_at, drop-append-add, drop-drop}
+use Rattle.std.proofs.Common.{ℕ, zero, suc, ◌+◌, ◌*◌, ◌/◌, ◌%◌, ◌^◌, ◌≡◌, refl, sym, ap, ◌∙◌, List, [], ◌∷◌, ◌++◌, div-one, arith, length, take, drop, shr-shr, take_all, take_at, drop-drop}
+use Rattle.std.proofs.Math.Seq.{paste, drop-append-add}
 use Rattle.values.specs.Sizes.{capacity}
 use Rattle.host.specs.declared.report.Report.{Report}
 use Rattle.host.specs.Call.{little, head_of, head_size, bytes_of, answer_size}

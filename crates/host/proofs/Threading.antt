@@ -1,11 +1,7 @@
 -- The threads of an order, place by place.
-use Prim.Native.Nat.{ℕ, suc, ◌+◌, ◌<◌, ◌≤◌}
-use mathlib.Core.Path.{◌≡◌, refl, sym, ◌∙◌}
-use mathlib.Core.List.{List, [], ◌∷◌, ◌++◌}
-use native.Mathlib.Numerals.{add-one}
-use native.Mathlib.Omega.{arith}
-use lib.ListN.{length, take, set, get_or, length-map, length-set, get_or-map}
-use lib.Seq.{take_all, take-suc, take-suc-set}
+use Rattle.std.proofs.Common.{ℕ, suc, ◌+◌, ◌<◌, ◌≤◌, ◌≡◌, refl, sym, ◌∙◌, List, [], ◌∷◌, ◌++◌, add-one, arith, length, take, length-set, take_all, take-suc, take-suc-set}
+use Rattle.std.specs.Prelude.{set}
+use Rattle.std.proofs.Math.ListN.{get_or, length-map, get_or-map}
 use Rattle.values.specs.Sizes.{capacity}
 use Rattle.judging.specs.declared.answer.Placed.{Placed}
 use Rattle.host.specs.Call.{threads_of}

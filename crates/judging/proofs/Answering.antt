@@ -1,10 +1,6 @@
 -- The answer for the way in which a search stopped.
-use Prim.Native.Nat.{ℕ, ◌-◌}
-use mathlib.Core.Path.{◌≡◌, refl, sym, ap, ◌∙◌}
-use mathlib.Core.Bool.{Bool, false}
-use mathlib.Core.List.{List}
-use lib.ListN.{length, take, replicate, length-append, length-replicate}
-use native.Mathlib.Omega.{arith}
+use Rattle.std.proofs.Common.{ℕ, ◌-◌, ◌≡◌, refl, sym, ap, ◌∙◌, Bool, false, List, length, take, replicate, length-append, arith}
+use Rattle.std.proofs.Math.ListN.{length-replicate}
 use Rattle.theory.specs.Budget.{order, Judged}
 use Rattle.history.specs.Lists.{not_both}
 use Rattle.values.specs.Value.{pick}

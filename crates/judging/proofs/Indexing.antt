@@ -1,12 +1,8 @@
 -- The loops over a history and over its counters: what they have built so far.
-use Prim.Native.Nat.{ℕ, suc, ◌+◌, ◌*◌, ◌<◌, ◌≤◌}
-use mathlib.Core.Path.{◌≡◌, refl, sym, ap, ◌∙◌}
-use mathlib.Core.Logic.{◌≢◌}
-use mathlib.Core.List.{List, [], ◌∷◌, ◌++◌}
-use lib.ListN.{length, get_or, set, drop, replicate, length-append, length-set, drop_of_length-le, get_or-append}
-use lib.Seq.{drop-cons, get_or-set_same, get_or-set_other, get_or_at}
-use native.Mathlib.Numerals.{add-one}
-use native.Mathlib.Omega.{arith}
+use Rattle.std.proofs.Common.{ℕ, suc, ◌+◌, ◌*◌, ◌<◌, ◌≤◌, ◌≡◌, refl, sym, ap, ◌∙◌, ◌≢◌, List, [], ◌∷◌, ◌++◌, length, drop, replicate, length-append, length-set, drop_of_length-le, drop-cons, get_or-set_same, get_or-set_other, add-one, arith}
+use Rattle.std.proofs.Math.ListN.{get_or, get_or-append}
+use Rattle.std.specs.Prelude.{set}
+use Rattle.std.proofs.Math.Seq.{get_or_at}
 use Rattle.history.specs.Lists.{own_or_other, get_d_same}
 use Rattle.values.specs.Sizes.{threads, capacity}
 use Rattle.stepping.specs.declared.histories.History.{History}

@@ -1,10 +1,6 @@
 -- The notes of an operation and the progress of a search, thread by thread.
-use Prim.Native.Nat.{ℕ, ◌<◌, ◌≤◌}
-use mathlib.Core.Path.{◌≡◌}
-use mathlib.Core.Bool.{true, false}
-use mathlib.Core.List.{List}
-use lib.ListN.{length, get_or}
-use native.Mathlib.Omega.{arith}
+use Rattle.std.proofs.Common.{ℕ, ◌<◌, ◌≤◌, ◌≡◌, true, false, List, length, arith}
+use Rattle.std.proofs.Math.ListN.{get_or}
 use Rattle.history.specs.Space.{met}
 use Rattle.history.specs.Lists.{not_true}
 use Rattle.history.specs.Progress.{met_of, of_met}

@@ -1,12 +1,8 @@
 -- The loop that replays a path: after d of its threads it has what they make.
-use Prim.Native.Nat.{ℕ, suc, ◌+◌, ◌*◌, ◌-◌, ◌<◌, ◌≤◌}
-use mathlib.Core.Path.{◌≡◌, sym, ap, ◌∙◌, subst}
-use mathlib.Core.List.{List, [], ◌∷◌, ◌++◌}
-use lib.ListN.{length, get_or, set, take, replicate}
-use lib.Seq.{take-suc, take-take, get_or-take, length-take-le, append_snoc, set_at}
-use lib.IntN.{ℤ}
-use native.Mathlib.Numerals.{add-one}
-use native.Mathlib.Omega.{arith}
+use Rattle.std.proofs.Common.{ℕ, suc, ◌+◌, ◌*◌, ◌-◌, ◌<◌, ◌≤◌, ◌≡◌, sym, ap, ◌∙◌, subst, List, [], ◌∷◌, ◌++◌, length, take, replicate, take-suc, take-take, get_or-take, length-take-le, ℤ, add-one, arith}
+use Rattle.std.proofs.Math.ListN.{get_or}
+use Rattle.std.specs.Prelude.{set}
+use Rattle.std.proofs.Math.Seq.{append_snoc, set_at}
 use Rattle.values.specs.Sizes.{threads, capacity}
 use Rattle.families.specs.Placing.{held_of, given_of, leaves_of, acted_of}
 use Rattle.families.specs.declared.Ret.{Ret}

@@ -1,15 +1,7 @@
 -- Groups joined by shifts, and numbers read byte by byte.
-use Prim.Native.Nat.{ℕ, zero, suc, ◌+◌, ◌*◌, ◌%◌, ◌^◌, ◌<◌, ◌≤◌}
-use mathlib.Core.Path.{◌≡◌, refl}
-use mathlib.Core.Bool.{true, false}
-use mathlib.Core.List.{List}
-use native.Mathlib.Numerals.{add-one}
-use native.Mathlib.Omega.{arith}
-use native.Mathlib.Nat.{mod-eq_of_lt}
-use borrow.Author.Tests.{lt-ltb, le-ltb}
-use lib.Bits.{bit_or, or_shifted_r}
-use lib.ListN.{length, get_or, drop}
-use lib.Seq.{drop-cons}
+use Rattle.std.proofs.Common.{ℕ, zero, suc, ◌+◌, ◌*◌, ◌%◌, ◌^◌, ◌<◌, ◌≤◌, ◌≡◌, refl, true, false, List, add-one, arith, mod-eq_of_lt, lt-ltb, le-ltb, bit_or, length, drop, drop-cons}
+use Rattle.std.specs.Int.Bits.{or_shifted_r}
+use Rattle.std.proofs.Math.ListN.{get_or}
 use Rattle.numbers.specs.declared.refusal.Refusal.TheVariants.{TooBig}
 use Rattle.numbers.specs.Reader.{got, refused}
 use Rattle.numbers.specs.Number.{too_big, number_from}

@@ -1,6 +1,5 @@
 -- What a Write answers.
-use mathlib.Core.Path.{◌≡◌, refl}
-use mathlib.Core.Bool.{Bool, true, false}
+use Rattle.std.proofs.Common.{◌≡◌, refl, Bool, true, false}
 use Rattle.values.specs.Coded.{same_coded, maybe_coded}
 use Rattle.values.specs.declared.value.Maybe.{Maybe}
 use Rattle.objects.specs.WriteOnce.{write_answer, once_ret_coded}

@@ -1,14 +1,10 @@
 -- The one pass over the operations of a history: what is left of them, with what was counted so far, is in shape
 -- exactly if the history is, and says where each thread's operation in flight stands.
-use Prim.Native.Nat.{ℕ, zero, suc, ◌+◌, ◌-◌, ◌<◌}
-use mathlib.Core.Path.{◌≡◌, refl, sym, ap, subst}
-use mathlib.Core.Bool.{Bool, true, false}
-use mathlib.Core.List.{List, [], ◌∷◌}
-use native.Mathlib.Omega.{arith}
-use lib.Dec.{leb, eqb, eqb-suc-suc}
-use lib.ListN.{length, get_or, set, replicate}
-use lib.Seq.{get_or-set_same, get_or-set_other}
-use borrow.Author.Tests.{eq-eqb, ne_eqb, eqb-true, eqb-false}
+use Rattle.std.proofs.Common.{ℕ, zero, suc, ◌+◌, ◌-◌, ◌<◌, ◌≡◌, refl, sym, ap, subst, Bool, true, false, List, [], ◌∷◌, arith, length, replicate, get_or-set_same, get_or-set_other, eq-eqb, ne_eqb, eqb-true}
+use Rattle.std.specs.Prelude.{leb, eqb, set}
+use Rattle.std.proofs.Math.Dec.{eqb-suc-suc}
+use Rattle.std.proofs.Math.ListN.{get_or}
+use Rattle.std.proofs.lemmas.Bool.{eqb-false}
 use Rattle.values.specs.Value.{pick}
 use Rattle.values.specs.Sizes.{threads, capacity}
 use Rattle.values.specs.Checks.{is_clear}

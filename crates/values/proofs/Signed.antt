@@ -1,14 +1,8 @@
 -- Signed values and their bits.
-use Prim.Native.Nat.{ℕ, zero, suc, ◌/◌, ◌<◌, ◌^◌}
-use mathlib.Core.Path.{◌≡◌, refl, ap, ◌∙◌}
-use native.Mathlib.Omega.{arith}
-use native.Mathlib.Nat.{zero-add}
-use lib.IntN.{ℤ, pos, negsuc, ◌-ℤ◌}
-use mir.Syntax.{w32}
-use lib.Signed.{mag}
-use mir.Val.{to_z, of_z, hbits, SFits}
+use Rattle.std.proofs.Common.{ℕ, zero, suc, ◌/◌, ◌<◌, ◌^◌, ◌≡◌, refl, ap, ◌∙◌, arith, zero-add, ℤ, pos, negsuc, ◌-ℤ◌, w32, to_z, of_z, SFits, to_z-of_z}
+use Rattle.std.specs.Int.Signed.{mag}
+use mir.Val.{hbits}
 use mir.ValLaws.{to_z_pos}
-use mir.Facts.{to_z-of_z}
 use Rattle.values.specs.Value.{signed}
 
 -- the number of the bits of a value is the value

@@ -1,15 +1,7 @@
 -- A signed value as a word: what the code computes of it.
-use Prim.Native.Nat.{ℕ, suc, ◌+◌, ◌-◌, ◌*◌, ◌<◌}
-use mathlib.Core.Path.{◌≡◌, refl, sym, ap, ◌∙◌, subst}
-use mathlib.Core.Bool.{Bool, true, false, cond}
-use native.Mathlib.Omega.{arith}
-use borrow.Author.Tests.{ltb-true, le-ltb}
-use lib.Dec.{T}
-use lib.IntN.{ℤ, pos, negsuc, nat_abs, ◌-ℤ◌}
-use lib.Signed.{lt_z, non_neg}
-use mir.Syntax.{w32}
-use mir.Val.{to_z, of_z, SFits, Fits}
-use mir.Facts.{to_z-of_z}
+use Rattle.std.proofs.Common.{ℕ, suc, ◌+◌, ◌-◌, ◌*◌, ◌<◌, ◌≡◌, refl, sym, ap, ◌∙◌, subst, Bool, true, false, cond, arith, ltb-true, le-ltb, T, ℤ, pos, negsuc, ◌-ℤ◌, w32, to_z, of_z, SFits, Fits, to_z-of_z}
+use Rattle.std.proofs.Math.IntN.{nat_abs}
+use Rattle.std.specs.Int.Signed.{lt_z, non_neg}
 use Rattle.history.specs.Lists.{not_both}
 use Rattle.values.specs.Value.{zigzag}
 

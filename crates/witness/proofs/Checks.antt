@@ -1,9 +1,5 @@
 -- The checker's answer from that of the replay on the record, for both testers.
-use Prim.Native.Nat.{ℕ, ◌*◌}
-use mathlib.Core.Path.{◌≡◌, ◌∙◌}
-use mathlib.Core.Bool.{Bool, true, false}
-use mathlib.Core.List.{List}
-use lib.ListN.{length}
+use Rattle.std.proofs.Common.{ℕ, ◌*◌, ◌≡◌, ◌∙◌, Bool, true, false, List, length}
 use Rattle.history.specs.Space.{met}
 use Rattle.values.specs.Value.{pick}
 use Rattle.values.specs.Sizes.{threads, room}

@@ -1,14 +1,10 @@
 -- Counters against counters: notes that are met, and every completed operation placed.
-use Prim.Native.Nat.{ℕ, zero, suc, ◌+◌, ◌*◌, ◌<◌, ◌≤◌}
-use mathlib.Core.Path.{◌≡◌, refl, sym, ap, ◌∙◌}
-use mathlib.Core.Bool.{Bool, true, false}
-use mathlib.Core.List.{List, []}
-use native.Mathlib.Nat.{zero-add}
-use native.Mathlib.Omega.{arith}
-use lib.ListN.{length, get_or, take, drop, replicate, get_or-eq_default}
-use lib.Seq.{get_or-take, get_or-drop, drop-nil}
-use lib.Dec.{leb, ltb, leb-suc-suc}
-use borrow.Author.Tests.{leb-true, le-leb, lt-leb, ltb-true, ltb-false}
+use Rattle.std.proofs.Common.{ℕ, zero, suc, ◌+◌, ◌*◌, ◌<◌, ◌≤◌, ◌≡◌, refl, sym, ap, ◌∙◌, Bool, true, false, List, [], zero-add, arith, length, take, drop, replicate, get_or-take, get_or-drop, leb-true, le-leb, ltb-true, ltb-false}
+use Rattle.std.proofs.Math.ListN.{get_or, get_or-eq_default}
+use Rattle.std.proofs.Math.Seq.{drop-nil}
+use Rattle.std.proofs.Math.Dec.{leb, leb-suc-suc}
+use Rattle.std.specs.Prelude.{ltb}
+use Rattle.std.proofs.lemmas.Bool.{lt-leb}
 use Rattle.history.specs.Lists.{get_d_same}
 use Rattle.history.specs.Rows.{Entry, row, Shaped, empty, in_flight, completed_first}
 use Rattle.history.specs.Recorder.{completed as completed_of}

@@ -1,13 +1,8 @@
 -- A thread's next operation, read off the record: the entry at the place that is found.
-use Prim.Native.Nat.{ℕ, zero, suc, ◌+◌, ◌<◌, ◌≤◌}
-use mathlib.Core.Path.{◌≡◌, refl, sym, ap, ◌∙◌}
-use mathlib.Core.Bool.{Bool, true, false, cond}
-use mathlib.Core.Option.{Option, none, some}
-use mathlib.Core.List.{List, [], ◌∷◌}
-use native.Mathlib.Omega.{arith}
-use lib.ListN.{length, get_or, get_or-eq_default, length-take, get_elem? as nth}
-use lib.Seq.{get_or-take}
-use lib.Dec.{eqb}
+use Rattle.std.proofs.Common.{ℕ, zero, suc, ◌+◌, ◌<◌, ◌≤◌, ◌≡◌, refl, sym, ap, ◌∙◌, Bool, true, false, cond, List, [], ◌∷◌, arith, length, length-take, get_or-take}
+use Rattle.std.proofs.Math.Option.{Option, none, some}
+use Rattle.std.proofs.Math.ListN.{get_or, get_or-eq_default, get_elem? as nth}
+use Rattle.std.specs.Prelude.{eqb}
 use Rattle.history.specs.Rows.{Entry, row}
 use Rattle.history.specs.Space.{next}
 use Rattle.history.specs.Progress.{next_row}

@@ -1,10 +1,7 @@
 -- A thread that there is gets its counter; of any other nothing changes, since it stands behind the end.
-use mathlib.Core.Path.{◌≡◌, sym}
-use lib.ListN.{length}
-use lib.Seq.{set_out}
-use native.Mathlib.Omega.{arith}
+use Rattle.std.proofs.Common.{◌≡◌, sym, length, arith, rules}
+use Rattle.std.proofs.Math.Seq.{set_out}
 use Rattle.values.specs.Sizes.{threads}
-use borrow.Author.Rules.{rules}
 use Rattle.faults.proofs.counted.Goals as goal
 
 pub returns-else-t-lt-THREADS : goal.returns-else-t-lt-THREADS

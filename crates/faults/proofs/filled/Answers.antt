@@ -1,5 +1,5 @@
 -- The parts of the record, each made by its function.
-use borrow.Author.Rules.{rules}
+use Rattle.std.proofs.Common.{rules}
 use Rattle.faults.specs.Records.{filled}
 use Rattle.faults.proofs.filled.Goals as goal
 

@@ -1,5 +1,5 @@
 -- The parts, put together.
-use borrow.Author.Rules.{rules}
+use Rattle.std.proofs.Common.{rules}
 use Rattle.faults.specs.Records.{record_of}
 use Rattle.faults.proofs.of_two.Goals as goal
 

@@ -1,11 +1,7 @@
 -- The note at its place, or nowhere.
-use Prim.Native.Nat.{◌*◌}
-use mathlib.Core.Path.{refl, sym}
-use lib.ListN.{replicate}
-use lib.Seq.{set_out}
-use native.Mathlib.Omega.{arith}
+use Rattle.std.proofs.Common.{◌*◌, refl, sym, replicate, arith, rules}
+use Rattle.std.proofs.Math.Seq.{set_out}
 use Rattle.values.specs.Sizes.{threads, capacity}
-use borrow.Author.Rules.{rules}
 use Rattle.faults.specs.Records.{one_note}
 use Rattle.faults.proofs.one_note.Goals as goal
 

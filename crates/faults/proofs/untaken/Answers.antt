@@ -1,5 +1,5 @@
 -- What fills a fresh record.
-use borrow.Author.Rules.{rules}
+use Rattle.std.proofs.Common.{rules}
 use Rattle.faults.proofs.untaken.Goals as goal
 
 pub returns : goal.returns

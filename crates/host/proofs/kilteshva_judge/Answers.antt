@@ -1,7 +1,4 @@
-use Prim.Native.Nat.{ℕ}
-use mathlib.Core.Path.{◌≡◌, sym, subst}
-use native.Mathlib.Omega.{arith}
-use borrow.Author.Rules.{rules}
+use Rattle.std.proofs.Common.{ℕ, ◌≡◌, sym, subst, arith, rules}
 use Rattle.host.specs.Call.{report_of, model_of}
 use Rattle.host.specs.CallMeant.{calls}
 use Rattle.host.proofs.Calling.{unwritten, written}

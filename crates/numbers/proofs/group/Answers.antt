@@ -1,6 +1,6 @@
 -- A mask of seven bits is the remainder by 128.
-use native.Mathlib.Omega.{arith}
-use lib.Bits.{and_mask, mask_lt}
+use Rattle.std.proofs.Common.{arith}
+use Rattle.std.specs.Int.Bits.{and_mask, mask_lt}
 use Rattle.numbers.proofs.group.Goals as goal
 
 pub overflow_cast-result : goal.overflow_cast-result

@@ -1,11 +1,6 @@
 -- What is left to read from byte i on, above what is summed up so far, says the same number as the whole.
-use Prim.Native.Nat.{◌≤◌, ◌<◌, ◌-◌, ◌+◌, ◌*◌, ◌%◌, ◌^◌}
-use mathlib.Core.Path.{◌≡◌, refl, sym, ap, ◌∙◌}
-use mathlib.Core.Bool.{false}
-use mathlib.Core.List.{[]}
-use native.Mathlib.Omega.{arith}
-use lib.ListN.{length, get_or, drop, drop_of_length-le}
-use borrow.Author.Rules.{rules}
+use Rattle.std.proofs.Common.{◌≤◌, ◌<◌, ◌-◌, ◌+◌, ◌*◌, ◌%◌, ◌^◌, ◌≡◌, refl, sym, ap, ◌∙◌, false, [], arith, length, drop, drop_of_length-le, rules}
+use Rattle.std.proofs.Math.ListN.{get_or}
 use Rattle.numbers.specs.Number.{too_big, number_from, number}
 use Rattle.numbers.specs.Number.{as_number}
 use Rattle.numbers.specs.Groups.{group_fits, goes_on, sum_lt}

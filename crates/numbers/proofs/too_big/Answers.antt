@@ -1,5 +1,5 @@
 -- A fifth byte is at a place above 3, and too big above 15.
-use borrow.Author.Tests.{lt-ltb, le-ltb}
+use Rattle.std.proofs.Common.{lt-ltb, le-ltb}
 use Rattle.numbers.specs.Number.{too_big}
 use Rattle.numbers.proofs.too_big.Goals as goal
 

@@ -1,4 +1,4 @@
-use borrow.Author.Rules.{rules}
+use Rattle.std.proofs.Common.{rules}
 use Rattle.semantics.specs.Calls.{answer_by}
 use Rattle.semantics.proofs.answer_by.Goals as goal
 

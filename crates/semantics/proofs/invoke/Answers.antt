@@ -1,5 +1,4 @@
-use mathlib.Core.Path.{sym, ◌∙◌}
-use borrow.Author.Rules.{rules}
+use Rattle.std.proofs.Common.{sym, ◌∙◌, rules}
 use Rattle.semantics.specs.Calls.{invoke_of}
 use Rattle.semantics.proofs.invoke.Goals as goal
 

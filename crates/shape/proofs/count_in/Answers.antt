@@ -1,8 +1,5 @@
 -- An operation that fits is marked in flight or counted among those still to come.
-use Prim.Native.Nat.{◌-◌}
-use mathlib.Core.Path.{sym, ◌∙◌}
-use borrow.Author.Rules.{rules}
-use borrow.Author.Tests.{eq-eqb, ne_eqb}
+use Rattle.std.proofs.Common.{◌-◌, sym, ◌∙◌, rules, eq-eqb, ne_eqb}
 use Rattle.shape.specs.Pass.{goes_on, counts_in, left_after, flying_after}
 use Rattle.stepping.specs.RecordLaws.{never}
 use Rattle.shape.proofs.Looking.{fits_known}

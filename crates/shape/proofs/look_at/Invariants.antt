@@ -1,10 +1,5 @@
 -- What is left of the operations is in shape, with what was counted so far, exactly if the history is.
-use Prim.Native.Nat.{◌≤◌, ◌-◌}
-use mathlib.Core.Path.{◌≡◌, refl, sym, ◌∙◌}
-use mathlib.Core.Bool.{true}
-use native.Mathlib.Omega.{arith}
-use lib.ListN.{length}
-use borrow.Author.Rules.{rules}
+use Rattle.std.proofs.Common.{◌≤◌, ◌-◌, ◌≡◌, refl, sym, ◌∙◌, true, arith, length, rules}
 use Rattle.values.specs.Sizes.{capacity}
 use Rattle.values.specs.Checks.{is_clear}
 use Rattle.families.specs.Refusals.{start_check}

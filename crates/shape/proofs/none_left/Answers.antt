@@ -1,11 +1,7 @@
 -- No thread from the first on has anything left.
-use Prim.Native.Nat.{ℕ, ◌≤◌, ◌-◌}
-use mathlib.Core.Bool.{Bool, true}
-use mathlib.Core.Path.{◌≡◌, refl, sym}
-use lib.Dec.{eqb}
-use lib.ListN.{get_or}
-use borrow.Author.Rules.{rules}
-use borrow.Author.Tests.{eq-eqb, ne_eqb}
+use Rattle.std.proofs.Common.{ℕ, ◌≤◌, ◌-◌, Bool, true, ◌≡◌, refl, sym, rules, eq-eqb, ne_eqb}
+use Rattle.std.specs.Prelude.{eqb}
+use Rattle.std.proofs.Math.ListN.{get_or}
 use Rattle.values.specs.Sizes.{threads}
 use Rattle.shape.specs.Pass.{none_left}
 use Rattle.stepping.specs.Shape.{all_below}

@@ -1,7 +1,5 @@
 -- A thread that there is, and an operation and a return of the object.
-use borrow.Author.Tests.{le-ltb, lt-ltb}
-use mathlib.Core.Path.{sym, ◌∙◌}
-use borrow.Author.Rules.{rules}
+use Rattle.std.proofs.Common.{le-ltb, lt-ltb, sym, ◌∙◌, rules}
 use Rattle.stepping.specs.Shape.{operation_fits}
 use Rattle.shape.proofs.operation_fits.Goals as goal
 

@@ -1,5 +1,5 @@
 -- `testers::joined` hands back both numbers, both sizes and both testers.
-use borrow.Author.Rules.{rules}
+use Rattle.std.proofs.Common.{rules}
 use Rattle.testers.proofs.joined.Goals as goal
 
 pub returns : goal.returns

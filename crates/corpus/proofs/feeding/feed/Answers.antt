@@ -1,9 +1,5 @@
 -- Each turn records the event that the file has next as the tester's own call would.
-use Prim.Native.Nat.{◌-◌, ◌<◌}
-use mathlib.Core.Path.{ap}
-use native.Mathlib.Omega.{arith}
-use lib.ListN.{length, drop}
-use borrow.Author.Rules.{rules}
+use Rattle.std.proofs.Common.{◌-◌, ◌<◌, ap, arith, length, drop, rules}
 use Rattle.values.specs.Sizes.{threads, capacity}
 use Rattle.recording.specs.Testers.{linearizability}
 use Rattle.recording_meaning.specs.Models.{linearizability_model}

@@ -1,6 +1,5 @@
 -- The tester is made of the header's object, and fed with the events behind it.
-use mathlib.Core.Path.{refl, ap, ◌∙◌}
-use borrow.Author.Rules.{rules}
+use Rattle.std.proofs.Common.{refl, ap, ◌∙◌, rules}
 use Rattle.recording.specs.declared.linearizability.New.{New}
 use Rattle.recording_meaning.specs.Models.{linearizability_model}
 use Rattle.format.specs.Format.{header}

@@ -1,6 +1,5 @@
 -- The history that the other loader holds, without its notes.
-use mathlib.Core.Path.{sym, ap, ◌∙◌}
-use borrow.Author.Rules.{rules}
+use Rattle.std.proofs.Common.{sym, ap, ◌∙◌, rules}
 use Rattle.recording.specs.Testers.{sequential}
 use Rattle.corpus.specs.declared.linearizability.Loaded.{Loaded}
 use Rattle.corpus.specs.LoadAnswers.{as_sequential}

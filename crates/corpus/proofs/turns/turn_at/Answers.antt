@@ -1,9 +1,5 @@
 -- The event is read whole, and then looked at as the tester's own call would look at it.
-use Prim.Native.Nat.{ℕ}
-use mathlib.Core.Path.{◌≡◌, ap, ◌∙◌}
-use mathlib.Core.List.{List}
-use lib.ListN.{drop}
-use borrow.Author.Rules.{rules}
+use Rattle.std.proofs.Common.{ℕ, ◌≡◌, ap, ◌∙◌, List, drop, rules}
 use Rattle.history.specs.Events.{Event}
 use Rattle.families.specs.Families.{families}
 use Rattle.numbers.specs.Reader.{Read, got}

@@ -1,5 +1,5 @@
 -- The object is built as its definition builds it.
-use mathlib.Core.Path.{refl}
+use Rattle.std.proofs.Common.{refl}
 use Rattle.families.specs.Objects.{new_stack}
 use Rattle.families.proofs.Object.stack.Goals as goal
 

@@ -1,5 +1,5 @@
 -- Each family has its own default.
-use borrow.Author.Rules.{rules}
+use Rattle.std.proofs.Common.{rules}
 use Rattle.families.specs.Objects.{stand_in}
 use Rattle.families.proofs.Object.stand_in.Goals as goal
 

@@ -1,5 +1,5 @@
 -- The object is built as its definition builds it.
-use mathlib.Core.Path.{refl}
+use Rattle.std.proofs.Common.{refl}
 use Rattle.families.specs.Objects.{new_once}
 use Rattle.families.proofs.Object.write_once_register.Goals as goal
 

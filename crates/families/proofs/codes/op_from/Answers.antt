@@ -1,5 +1,5 @@
 -- The object tells the family, whose own table says the operation.
-use borrow.Author.Rules.{rules}
+use Rattle.std.proofs.Common.{rules}
 use Rattle.families.specs.Codes.{op_from}
 use Rattle.families.specs.Family.{family_of}
 use Rattle.families.proofs.codes.op_from.Goals as goal

@@ -1,5 +1,5 @@
 -- The numbers of objects are tested one by one, and none is left over.
-use borrow.Author.Tests.{eq-eqb, ne_eqb}
+use Rattle.std.proofs.Common.{eq-eqb, ne_eqb}
 use Rattle.families.specs.Codes.{start_form}
 use Rattle.families.proofs.codes.start_form.Goals as goal
 

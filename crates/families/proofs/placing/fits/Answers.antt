@@ -1,5 +1,5 @@
 -- One in flight may stand anywhere, and one that has returned where its return is right.
-use borrow.Author.Rules.{rules}
+use Rattle.std.proofs.Common.{rules}
 use Rattle.families.specs.Placing.{fits_of}
 use Rattle.families.proofs.placing.fits.Goals as goal
 

@@ -1,5 +1,5 @@
 -- Height 0 says nothing, and any other a value.
-use borrow.Author.Tests.{eq-eqb, ne_eqb}
+use Rattle.std.proofs.Common.{eq-eqb, ne_eqb}
 use Rattle.families.specs.Placing.{once_of}
 use Rattle.values.specs.Bits.{back}
 use Rattle.families.proofs.placing.once_of.Goals as goal

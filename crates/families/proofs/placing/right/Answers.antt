@@ -1,7 +1,6 @@
 -- The return is looked at by the operation's family, and is wrong in any other.
-use mathlib.Core.List.{[], ◌∷◌}
+use Rattle.std.proofs.Common.{[], ◌∷◌, rules}
 use types.Run.{miss}
-use borrow.Author.Rules.{rules}
 use Rattle.families.specs.Family.{family_number, ret_family}
 use Rattle.families.specs.Codes.{ret_coded}
 use Rattle.families.specs.Families.{same_ret}

@@ -1,6 +1,5 @@
 -- A place within the room gets back what it had; FULL is no place.
-use borrow.Author.Rules.{rules}
-use borrow.Author.Tests.{le-ltb, lt-ltb}
+use Rattle.std.proofs.Common.{rules, le-ltb, lt-ltb}
 use Rattle.families.specs.Placing.{back_of}
 use Rattle.values.specs.Bits.{back}
 use Rattle.families.proofs.placing.take_back.Goals as goal

@@ -1,5 +1,5 @@
 -- Only a return of a Pop takes.
-use borrow.Author.Rules.{rules}
+use Rattle.std.proofs.Common.{rules}
 use Rattle.families.specs.Placing.{taken}
 use Rattle.families.proofs.placing.taken.Goals as goal
 

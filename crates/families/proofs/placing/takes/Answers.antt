@@ -1,5 +1,5 @@
 -- Only a Pop takes.
-use borrow.Author.Rules.{rules}
+use Rattle.std.proofs.Common.{rules}
 use Rattle.families.specs.Placing.{takes}
 use Rattle.families.proofs.placing.takes.Goals as goal
 

@@ -1,5 +1,5 @@
 -- Only a stack can want for room.
-use borrow.Author.Rules.{rules}
+use Rattle.std.proofs.Common.{rules}
 use Rattle.families.specs.Refusals.{room_check}
 use Rattle.families.proofs.refusal.check_room.Goals as goal
 

@@ -1,5 +1,5 @@
 -- Only a stack can be out of shape.
-use borrow.Author.Rules.{rules}
+use Rattle.std.proofs.Common.{rules}
 use Rattle.families.specs.Refusals.{shape_check}
 use Rattle.families.proofs.refusal.check_shape.Goals as goal
 

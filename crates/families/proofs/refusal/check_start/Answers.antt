@@ -1,5 +1,5 @@
 -- The shape is looked at before the size.
-use borrow.Author.Rules.{rules}
+use Rattle.std.proofs.Common.{rules}
 use Rattle.families.specs.Refusals.{start_check}
 use Rattle.families.proofs.refusal.check_start.Goals as goal
 

@@ -1,6 +1,5 @@
 -- Room is asked for only where the return says that it was taken.
-use mathlib.Core.Path.{sym, ◌∙◌}
-use borrow.Author.Rules.{rules}
+use Rattle.std.proofs.Common.{sym, ◌∙◌, rules}
 use Rattle.families.specs.Refusals.{step_room}
 use Rattle.families.proofs.refusal.check_step_room.Goals as goal
 

@@ -1,9 +1,5 @@
 -- The count is read and judged, and then so many values are read.
-use Prim.Native.Nat.{ℕ}
-use mathlib.Core.Path.{◌≡◌, sym, ap, ◌∙◌}
-use mathlib.Core.List.{List}
-use borrow.Author.Rules.{rules}
-use borrow.Author.Tests.{lt-ltb, le-ltb}
+use Rattle.std.proofs.Common.{ℕ, ◌≡◌, sym, ap, ◌∙◌, List, rules, lt-ltb, le-ltb}
 use Rattle.numbers.specs.Reader.{got, from}
 use Rattle.numbers.specs.Number.{number}
 use Rattle.format.specs.Format.{counted, counted_start}

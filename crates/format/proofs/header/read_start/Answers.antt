@@ -1,8 +1,5 @@
 -- The number is read, and what follows is read by the form that the table has for it.
-use Prim.Native.Nat.{ℕ}
-use mathlib.Core.Path.{◌≡◌, sym, ap, ◌∙◌}
-use mathlib.Core.List.{List}
-use borrow.Author.Rules.{rules}
+use Rattle.std.proofs.Common.{ℕ, ◌≡◌, sym, ap, ◌∙◌, List, rules}
 use Rattle.values.specs.declared.coded.StartForm.{StartForm}
 use Rattle.numbers.specs.Reader.{got, from}
 use Rattle.numbers.specs.Number.{number}

@@ -1,10 +1,5 @@
 -- What is left to read from where the loop stands says the same values as the whole: each turn reads one more into its place.
-use Prim.Native.Nat.{◌≤◌, ◌-◌}
-use mathlib.Core.Path.{◌≡◌, refl, sym, ap, ◌∙◌}
-use native.Mathlib.Omega.{arith}
-use lib.IntN.{ℤ}
-use lib.ListN.{length}
-use borrow.Author.Rules.{rules}
+use Rattle.std.proofs.Common.{◌≤◌, ◌-◌, ◌≡◌, refl, sym, ap, ◌∙◌, arith, ℤ, length, rules}
 use Rattle.values.specs.Coded.{coded}
 use Rattle.families.specs.Codes.{start_from}
 use Rattle.families.specs.Objects.{zeros}

@@ -1,6 +1,5 @@
 -- A refused header has the default register.
-use mathlib.Core.Path.{refl}
-use borrow.Author.Rules.{rules}
+use Rattle.std.proofs.Common.{refl, rules}
 use Rattle.format.proofs.header.refused_for.Goals as goal
 
 pub returns : goal.returns

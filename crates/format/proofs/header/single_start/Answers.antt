@@ -1,6 +1,5 @@
 -- What has the form is read, and the object is what the table starts with those numbers.
-use mathlib.Core.Path.{sym, ap, ◌∙◌}
-use borrow.Author.Rules.{rules}
+use Rattle.std.proofs.Common.{sym, ap, ◌∙◌, rules}
 use Rattle.families.specs.Codes.{start_from}
 use Rattle.families.specs.Objects.{zeros}
 use Rattle.numbers.specs.Reader.{from}

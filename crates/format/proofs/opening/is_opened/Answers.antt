@@ -1,10 +1,5 @@
 -- A file under four bytes has no opening; of any other the first four are compared.
-use Prim.Native.Nat.{ℕ}
-use mathlib.Core.Path.{◌≡◌, ap}
-use mathlib.Core.Bool.{false}
-use native.Mathlib.Omega.{arith}
-use lib.ListN.{length, length-take}
-use borrow.Author.Rules.{rules}
+use Rattle.std.proofs.Common.{ℕ, ◌≡◌, ap, false, arith, length, length-take, rules}
 use Rattle.format.specs.SameBytes.{said_same}
 use Rattle.format.proofs.opening.is_opened.Goals as goal
 

@@ -1,9 +1,5 @@
 -- The flag is read, and by it the answer is none, that of the number behind it, or a refusal.
-use Prim.Native.Nat.{ℕ}
-use mathlib.Core.Path.{◌≡◌, sym, ap}
-use mathlib.Core.List.{List}
-use borrow.Author.Rules.{rules}
-use borrow.Author.Tests.{eq-eqb, ne_eqb}
+use Rattle.std.proofs.Common.{ℕ, ◌≡◌, sym, ap, List, rules, eq-eqb, ne_eqb}
 use Rattle.numbers.specs.Reader.{got, from}
 use Rattle.numbers.specs.Number.{number}
 use Rattle.format.specs.Format.{flagged, maybe}

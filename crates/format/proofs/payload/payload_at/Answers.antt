@@ -1,6 +1,5 @@
 -- Each form has its reader.
-use mathlib.Core.Path.{sym, ap}
-use borrow.Author.Rules.{rules}
+use Rattle.std.proofs.Common.{sym, ap, rules}
 use Rattle.format.specs.Format.{payload}
 use Rattle.format.specs.ReadAnswers.{as_payload}
 use Rattle.format.specs.Fields.{from_give, from_refuse}

@@ -1,10 +1,5 @@
 -- A number at a place is the one that opens the bytes from there on, its end counted from the first byte.
-use Prim.Native.Nat.{ℕ}
-use mathlib.Core.Path.{sym, ap, ◌∙◌}
-use mathlib.Core.List.{List}
-use native.Mathlib.Omega.{arith}
-use lib.ListN.{drop, length-drop}
-use borrow.Author.Rules.{rules}
+use Rattle.std.proofs.Common.{ℕ, sym, ap, ◌∙◌, List, arith, drop, length-drop, rules}
 use Rattle.numbers.specs.Number.{number}
 use Rattle.numbers.specs.Number.{as_number}
 use Rattle.format.specs.Taking.{number_field, first_in}

@@ -1,8 +1,5 @@
 -- The number chooses the form in the family, what has that form is read, and the table says what it means.
-use Prim.Native.Nat.{ℕ}
-use mathlib.Core.Path.{◌≡◌, sym, ap, ◌∙◌}
-use mathlib.Core.List.{List}
-use borrow.Author.Rules.{rules}
+use Rattle.std.proofs.Common.{ℕ, ◌≡◌, sym, ap, ◌∙◌, List, rules}
 use Rattle.families.specs.Family.{Family, family_of}
 use Rattle.families.specs.Codes.{ret_form, ret_from}
 use Rattle.values.specs.declared.coded.Form.{Form}

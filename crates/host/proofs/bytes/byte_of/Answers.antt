@@ -1,7 +1,5 @@
-use Prim.Native.Nat.{◌*◌, ◌/◌, ◌^◌}
-use native.Mathlib.Omega.{arith}
-use lib.Bits.{and_mask, mask_lt}
-use borrow.Author.Rules.{rules}
+use Rattle.std.proofs.Common.{◌*◌, ◌/◌, ◌^◌, arith, rules}
+use Rattle.std.specs.Int.Bits.{and_mask, mask_lt}
 use Rattle.host.proofs.bytes.byte_of.Goals as goal
 
 pub overflow_cast-result-2 : goal.overflow_cast-result-2

@@ -1,4 +1,4 @@
-use borrow.Author.Rules.{rules}
+use Rattle.std.proofs.Common.{rules}
 use Rattle.host.proofs.Laying.{head_shifted}
 use Rattle.host.proofs.bytes.head_of.Goals as goal
 

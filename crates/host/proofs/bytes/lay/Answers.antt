@@ -1,7 +1,5 @@
 -- Each byte of the answer is laid at its place, and those behind keep theirs.
-use mathlib.Core.Path.{◌≡◌}
-use lib.ListN.{length}
-use borrow.Author.Rules.{rules}
+use Rattle.std.proofs.Common.{◌≡◌, length, rules}
 use Rattle.values.specs.Sizes.{capacity}
 use Rattle.host.proofs.Laying.{laid}
 use Rattle.host.proofs.bytes.lay.Goals as goal

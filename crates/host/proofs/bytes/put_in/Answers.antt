@@ -1,10 +1,5 @@
-use Prim.Native.Nat.{◌≤◌, ◌-◌}
-use mathlib.Core.Path.{◌≡◌, refl}
-use native.Mathlib.Numerals.{add-one}
-use native.Mathlib.Omega.{arith}
-use lib.ListN.{length, length-set}
-use lib.Seq.{paste, paste-zero, paste-suc}
-use borrow.Author.Rules.{rules}
+use Rattle.std.proofs.Common.{◌≤◌, ◌-◌, ◌≡◌, refl, add-one, arith, length, length-set, rules}
+use Rattle.std.proofs.Math.Seq.{paste, paste-zero, paste-suc}
 use Rattle.host.proofs.bytes.put_in.Goals as goal
 
 pub loop-i-init : goal.loop-i-init

@@ -1,7 +1,5 @@
 -- What the judge answers is told field by field.
-use native.Mathlib.Omega.{arith}
-use borrow.Author.Rules.{rules}
-use Rattle.std.proofs.Common.{◌≡◌, length}
+use Rattle.std.proofs.Common.{arith, rules, ◌≡◌, length}
 use Rattle.values.specs.Sizes.{capacity}
 use Rattle.stepping.specs.RecordLaws.{unmapped}
 use Rattle.host.specs.Call.{judged_report}

@@ -1,4 +1,4 @@
-use borrow.Author.Rules.{rules}
+use Rattle.std.proofs.Common.{rules}
 use Rattle.host.specs.Call.{refused_report}
 use Rattle.host.proofs.report.refused.Goals as goal
 

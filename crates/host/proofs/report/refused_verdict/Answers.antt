@@ -1,4 +1,4 @@
-use borrow.Author.Tests.{eq-eqb, ne_eqb}
+use Rattle.std.proofs.Common.{eq-eqb, ne_eqb}
 use Rattle.host.specs.Call.{refused_verdict}
 use Rattle.host.proofs.report.refused_verdict.Goals as goal
 

@@ -1,8 +1,5 @@
 -- The threads of the places taken come first, and nobody behind them.
-use Prim.Native.Nat.{◌-◌}
-use mathlib.Core.Path.{refl}
-use native.Mathlib.Omega.{arith}
-use borrow.Author.Rules.{rules}
+use Rattle.std.proofs.Common.{◌-◌, refl, arith, rules}
 use Rattle.values.specs.Sizes.{capacity}
 use Rattle.host.proofs.Threading.{Filled, filled_more, filled_end}
 use Rattle.host.proofs.report.threads_of.Goals as goal

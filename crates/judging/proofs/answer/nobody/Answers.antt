@@ -1,5 +1,5 @@
 -- Nobody has the return that stands where none is taken.
-use borrow.Author.Rules.{rules}
+use Rattle.std.proofs.Common.{rules}
 use Rattle.judging.proofs.answer.nobody.Goals as goal
 
 pub returns : goal.returns

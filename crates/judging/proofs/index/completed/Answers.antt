@@ -1,11 +1,6 @@
 -- The sum of the counts so far, and of those to come, is the sum of all.
-use Prim.Native.Nat.{◌+◌, ◌*◌, ◌≤◌, ◌-◌}
-use mathlib.Core.Path.{◌≡◌}
-use lib.ListN.{length, get_or, drop}
-use mir.Syntax.{w8}
-use mir.Val.{Fits}
-use native.Mathlib.Omega.{arith}
-use borrow.Author.Rules.{rules}
+use Rattle.std.proofs.Common.{◌+◌, ◌*◌, ◌≤◌, ◌-◌, ◌≡◌, length, drop, w8, Fits, arith, rules}
+use Rattle.std.proofs.Math.ListN.{get_or}
 use Rattle.values.specs.Sizes.{threads}
 use Rattle.judging.specs.Places.{sum_of}
 use Rattle.judging.proofs.Indexing.{sum_more, sum_end}

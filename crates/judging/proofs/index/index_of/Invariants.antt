@@ -1,9 +1,5 @@
 -- Each operation takes the next slot of its thread.
-use Prim.Native.Nat.{◌*◌, ◌-◌}
-use mathlib.Core.Path.{refl}
-use lib.ListN.{replicate}
-use native.Mathlib.Omega.{arith}
-use borrow.Author.Rules.{rules}
+use Rattle.std.proofs.Common.{◌*◌, ◌-◌, refl, replicate, arith, rules}
 use Rattle.values.specs.Sizes.{threads, capacity}
 use Rattle.stepping.specs.RecordLaws.{unmapped}
 use Rattle.recording_meaning.specs.Reading.{Sized}

@@ -1,8 +1,5 @@
 -- A record in shape and valid is searched, and any other is Invalid.
-use mathlib.Core.Path.{refl, sym, ◌∙◌}
-use mathlib.Core.Logic.{⊎_elim}
-use mathlib.Core.Bool.{true, false}
-use borrow.Author.Rules.{rules}
+use Rattle.std.proofs.Common.{refl, sym, ◌∙◌, ⊎_elim, true, false, rules}
 use Rattle.stepping.specs.Shape.{shape_of}
 use Rattle.recording.specs.Testers.{notes_shaped}
 use Rattle.recording_meaning.specs.Parts.{pick_right}

@@ -1,10 +1,6 @@
 -- The notes are met if each thread's is.
-use Prim.Native.Nat.{ℕ, ◌≤◌, ◌<◌, ◌-◌}
-use mathlib.Core.Path.{sym}
-use lib.ListN.{get_or}
-use native.Mathlib.Omega.{arith}
-use borrow.Author.Rules.{rules}
-use borrow.Author.Count.{below_more}
+use Rattle.std.proofs.Common.{ℕ, ◌≤◌, ◌<◌, ◌-◌, sym, arith, rules, below_more}
+use Rattle.std.proofs.Math.ListN.{get_or}
 use Rattle.values.specs.Sizes.{threads}
 use Rattle.stepping.specs.Shape.{note_at}
 use Rattle.judging.proofs.Noting.{notes_met, note_unmet}

@@ -1,9 +1,5 @@
 -- Placing the path once more from the start gives each place its return.
-use Prim.Native.Nat.{◌-◌}
-use mathlib.Core.Path.{◌≡◌}
-use lib.ListN.{length}
-use native.Mathlib.Omega.{arith}
-use borrow.Author.Rules.{rules}
+use Rattle.std.proofs.Common.{◌-◌, ◌≡◌, length, arith, rules}
 use Rattle.values.specs.Sizes.{capacity}
 use Rattle.recording_meaning.specs.Parts.{parts_of}
 use Rattle.judging.specs.Playing.{situation}

@@ -1,9 +1,6 @@
 -- Each turn goes where the machine of the walk goes: placed, turned away, or back over a level.
-use borrow.Author.Rules.{rules}
-use Prim.Native.Nat.{◌+◌, ◌*◌, ◌-◌}
-use mathlib.Core.Path.{◌≡◌, refl, sym, ◌∙◌}
-use lib.ListN.{length, length-map}
-use native.Mathlib.Omega.{arith}
+use Rattle.std.proofs.Common.{rules, ◌+◌, ◌*◌, ◌-◌, ◌≡◌, refl, sym, ◌∙◌, length, arith}
+use Rattle.std.proofs.lemmas.List.{length-map}
 use Rattle.values.specs.Sizes.{room}
 use Rattle.recording_meaning.specs.Reading.{Sized, notes_of}
 use Rattle.judging.specs.Playing.{situation}

@@ -1,7 +1,5 @@
 -- The loop stops as the walk does, and an order is shown with its returns.
-use mathlib.Core.Path.{◌≡◌, refl, ap, ◌∙◌}
-use lib.ListN.{length}
-use borrow.Author.Rules.{rules}
+use Rattle.std.proofs.Common.{◌≡◌, refl, ap, ◌∙◌, length, rules}
 use Rattle.values.specs.Sizes.{capacity}
 use Rattle.recording_meaning.specs.Reading.{notes_of}
 use Rattle.judging.specs.Answers.{is_consistent, judged_of}

@@ -1,9 +1,5 @@
 -- A record in shape and valid is searched with notes that ask for nothing, and any other is Invalid.
-use Prim.Native.Nat.{◌*◌}
-use mathlib.Core.Path.{refl, sym, ap, ◌∙◌}
-use mathlib.Core.Logic.{⊎_elim}
-use mathlib.Core.Bool.{true, false}
-use borrow.Author.Rules.{rules}
+use Rattle.std.proofs.Common.{◌*◌, refl, sym, ap, ◌∙◌, ⊎_elim, true, false, rules}
 use Rattle.values.specs.Sizes.{threads, capacity}
 use Rattle.recording_meaning.specs.Models.{sequential_model}
 use Rattle.judging.specs.Answers.{told_of}

@@ -1,5 +1,5 @@
 -- Each refusal has its line in the table of numbers.
-use borrow.Author.Rules.{rules}
+use Rattle.std.proofs.Common.{rules}
 use Rattle.numbers.specs.FileRefusals.{number_of}
 use Rattle.numbers.proofs.refusal.number.Goals as goal
 

@@ -1,5 +1,5 @@
 -- A Write answers WriteOk, a Read what is stored.
-use borrow.Author.Rules.{rules}
+use Rattle.std.proofs.Common.{rules}
 use Rattle.objects.specs.Register.{register_answer}
 use Rattle.values.specs.Bits.{back}
 use Rattle.objects.proofs.register.answer.Goals as goal

@@ -1,5 +1,5 @@
 -- The numbers of operations are tested one by one, and none is left over.
-use borrow.Author.Tests.{eq-eqb, ne_eqb}
+use Rattle.std.proofs.Common.{eq-eqb, ne_eqb}
 use Rattle.objects.specs.Register.{register_op_form}
 use Rattle.objects.proofs.register.op_form.Goals as goal
 

@@ -1,5 +1,5 @@
 -- The numbers of returns are tested one by one, and none is left over.
-use borrow.Author.Tests.{eq-eqb, ne_eqb}
+use Rattle.std.proofs.Common.{eq-eqb, ne_eqb}
 use Rattle.objects.specs.Register.{register_ret_form}
 use Rattle.objects.proofs.register.ret_form.Goals as goal
 

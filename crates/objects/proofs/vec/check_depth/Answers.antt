@@ -1,5 +1,5 @@
 -- The depth is held to the room of a stack.
-use borrow.Author.Tests.{le-ltb, lt-ltb}
+use Rattle.std.proofs.Common.{le-ltb, lt-ltb}
 use Rattle.objects.specs.Stack.{depth_check}
 use Rattle.objects.proofs.vec.check_depth.Goals as goal
 

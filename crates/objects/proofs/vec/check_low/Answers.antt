@@ -1,5 +1,5 @@
 -- The depth is held to that of a start.
-use borrow.Author.Tests.{le-ltb, lt-ltb}
+use Rattle.std.proofs.Common.{le-ltb, lt-ltb}
 use Rattle.objects.specs.Stack.{low_check}
 use Rattle.objects.proofs.vec.check_low.Goals as goal
 

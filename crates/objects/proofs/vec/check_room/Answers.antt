@@ -1,7 +1,5 @@
 -- Only a Push asks for room, and there is none at the full depth.
-use borrow.Author.Tests.{eq-eqb, ne_eqb}
-use mathlib.Core.Path.{sym, ◌∙◌}
-use borrow.Author.Rules.{rules}
+use Rattle.std.proofs.Common.{eq-eqb, ne_eqb, sym, ◌∙◌, rules}
 use Rattle.objects.specs.Stack.{stack_room}
 use Rattle.objects.proofs.vec.check_room.Goals as goal
 

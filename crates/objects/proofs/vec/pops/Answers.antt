@@ -1,5 +1,5 @@
 -- By cases.
-use borrow.Author.Rules.{rules}
+use Rattle.std.proofs.Common.{rules}
 use Rattle.objects.specs.Stack.{pops}
 use Rattle.objects.proofs.vec.pops.Goals as goal
 

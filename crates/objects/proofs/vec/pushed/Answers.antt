@@ -1,5 +1,5 @@
 -- By cases.
-use borrow.Author.Rules.{rules}
+use Rattle.std.proofs.Common.{rules}
 use Rattle.objects.specs.Stack.{pushed}
 use Rattle.objects.proofs.vec.pushed.Goals as goal
 

@@ -1,5 +1,5 @@
 -- By cases.
-use borrow.Author.Rules.{rules}
+use Rattle.std.proofs.Common.{rules}
 use Rattle.objects.specs.Stack.{pushes}
 use Rattle.objects.proofs.vec.pushes.Goals as goal
 

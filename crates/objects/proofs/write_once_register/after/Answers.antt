@@ -1,5 +1,5 @@
 -- Only a Write on nothing stores.
-use borrow.Author.Rules.{rules}
+use Rattle.std.proofs.Common.{rules}
 use Rattle.objects.specs.WriteOnce.{once_after}
 use Rattle.values.specs.Bits.{back}
 use Rattle.objects.proofs.write_once_register.after.Goals as goal

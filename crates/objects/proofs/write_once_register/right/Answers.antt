@@ -1,5 +1,5 @@
 -- A Write has the return that says whether it succeeds, a Read that of what is stored.
-use borrow.Author.Rules.{rules}
+use Rattle.std.proofs.Common.{rules}
 use Rattle.values.specs.Coded.{same_coded, maybe_coded}
 use Rattle.values.specs.SameValues.{maybe_same}
 use Rattle.objects.specs.WriteOnce.{once_answer, once_ret_coded}

@@ -1,7 +1,5 @@
 -- A record out of shape has no operations.
-use Prim.Native.Nat.{◌-◌}
-use mathlib.Core.Path.{sym, ◌∙◌}
-use borrow.Author.Rules.{rules}
+use Rattle.std.proofs.Common.{◌-◌, sym, ◌∙◌, rules}
 use Rattle.stepping.specs.Shape.{shaped_with}
 use Rattle.stepping.specs.Admitting.{size_yes, size_no}
 use Rattle.shape.specs.Marking.{looks}

@@ -1,5 +1,5 @@
 -- Of its own thread an operation can note nothing.
-use borrow.Author.Tests.{eq-eqb, ne_eqb}
+use Rattle.std.proofs.Common.{eq-eqb, ne_eqb}
 use Rattle.stepping.specs.Shape.{notable}
 use Rattle.shape.proofs.notes.notable_of.Goals as goal
 

@@ -1,9 +1,6 @@
 -- The notes are written thread by thread.
-use Prim.Native.Nat.{ℕ, ◌≤◌, ◌-◌}
-use mathlib.Core.Path.{◌≡◌, refl, subst}
-use native.Mathlib.Omega.{arith}
-use borrow.Author.Rules.{rules}
-use borrow.Author.Tests.{le-leb, lt-leb}
+use Rattle.std.proofs.Common.{ℕ, ◌≤◌, ◌-◌, ◌≡◌, refl, subst, arith, rules, le-leb}
+use Rattle.std.proofs.lemmas.Bool.{lt-leb}
 use Rattle.values.specs.Sizes.{threads}
 use Rattle.shape.specs.Notes.{notes_with}
 use Rattle.shape.specs.Notes.{noted_at}

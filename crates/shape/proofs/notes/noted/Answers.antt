@@ -1,10 +1,6 @@
 -- What is left of the notes fits exactly if all do.
-use Prim.Native.Nat.{◌≤◌, ◌-◌}
-use mathlib.Core.Path.{◌≡◌, refl, sym, ◌∙◌}
-use native.Mathlib.Omega.{arith}
-use lib.ListN.{drop, length}
-use borrow.Author.Rules.{rules}
-use borrow.Author.Tests.{lt-leb}
+use Rattle.std.proofs.Common.{◌≤◌, ◌-◌, ◌≡◌, refl, sym, ◌∙◌, arith, drop, length, rules}
+use Rattle.std.proofs.lemmas.Bool.{lt-leb}
 use Rattle.values.specs.Sizes.{capacity}
 use Rattle.stepping.specs.Record.{held}
 use Rattle.stepping.specs.Shape.{notes_fit_from}

@@ -1,11 +1,8 @@
 -- Each thread's note is held to what it can be.
-use Prim.Native.Nat.{ℕ, ◌≤◌, ◌-◌}
-use mathlib.Core.Bool.{Bool, true}
-use mathlib.Core.Path.{◌≡◌, refl, sym, ap, ◌∙◌}
-use lib.Dec.{leb}
-use lib.ListN.{get_or}
-use borrow.Author.Rules.{rules}
-use borrow.Author.Tests.{lt-leb, le-leb}
+use Rattle.std.proofs.Common.{ℕ, ◌≤◌, ◌-◌, Bool, true, ◌≡◌, refl, sym, ap, ◌∙◌, rules, le-leb}
+use Rattle.std.specs.Prelude.{leb}
+use Rattle.std.proofs.Math.ListN.{get_or}
+use Rattle.std.proofs.lemmas.Bool.{lt-leb}
 use Rattle.values.specs.Sizes.{threads}
 use Rattle.stepping.specs.Shape.{all_below, note_at, notable, notes_fit}
 use Rattle.stepping.specs.RecordLaws.{below_no, below_more, below_end}

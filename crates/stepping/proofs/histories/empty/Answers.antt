@@ -1,5 +1,5 @@
 -- A blank operation fills every place.
-use borrow.Author.Rules.{rules}
+use Rattle.std.proofs.Common.{rules}
 use Rattle.stepping.specs.Record.{fresh}
 use Rattle.stepping.proofs.histories.empty.Goals as goal
 

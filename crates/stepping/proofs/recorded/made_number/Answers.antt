@@ -1,5 +1,5 @@
 -- A refused start has the number of the object's refusal.
-use borrow.Author.Rules.{rules}
+use Rattle.std.proofs.Common.{rules}
 use Rattle.stepping.specs.EventSteps.{made_number_of}
 use Rattle.stepping.proofs.recorded.made_number.Goals as goal
 

@@ -1,5 +1,5 @@
 -- Taken is 0, and a refusal has the number of its reason.
-use borrow.Author.Rules.{rules}
+use Rattle.std.proofs.Common.{rules}
 use Rattle.stepping.specs.EventSteps.{number_of}
 use Rattle.stepping.proofs.recorded.number.Goals as goal
 

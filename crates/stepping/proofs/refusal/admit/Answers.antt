@@ -1,9 +1,6 @@
 -- The reasons are looked at in their order.
-use Prim.Native.Nat.{ℕ}
-use mathlib.Core.Path.{◌≡◌, refl, ◌∙◌}
-use mathlib.Core.Bool.{Bool, true, false}
-use lib.Dec.{ltb}
-use borrow.Author.Rules.{rules}
+use Rattle.std.proofs.Common.{ℕ, ◌≡◌, refl, ◌∙◌, Bool, true, false, rules}
+use Rattle.std.specs.Prelude.{ltb}
 use Rattle.values.specs.Sizes.{threads}
 use Rattle.stepping.specs.declared.recorded.Recorded.{Recorded}
 use Rattle.stepping.specs.declared.recorded.Recorded.TheVariants.{Taken, Refused}

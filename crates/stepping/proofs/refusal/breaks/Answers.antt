@@ -1,5 +1,5 @@
 -- By cases.
-use borrow.Author.Rules.{rules}
+use Rattle.std.proofs.Common.{rules}
 use Rattle.stepping.specs.EventSteps.{breaks}
 use Rattle.stepping.proofs.refusal.breaks.Goals as goal
 

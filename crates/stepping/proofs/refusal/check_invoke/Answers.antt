@@ -1,7 +1,5 @@
 -- What is let pass is busy, full or taken.
-use borrow.Author.Tests.{le-ltb, lt-ltb}
-use mathlib.Core.Path.{sym, ◌∙◌}
-use borrow.Author.Rules.{rules}
+use Rattle.std.proofs.Common.{le-ltb, lt-ltb, sym, ◌∙◌, rules}
 use Rattle.stepping.specs.StepChecks.{invoke_check}
 use Rattle.stepping.proofs.refusal.check_invoke.Goals as goal
 

@@ -1,5 +1,5 @@
 -- What the object refuses is refused with its reason.
-use borrow.Author.Rules.{rules}
+use Rattle.std.proofs.Common.{rules}
 use Rattle.stepping.specs.StepChecks.{checked_of}
 use Rattle.stepping.proofs.refusal.checked.Goals as goal
 

@@ -1,6 +1,5 @@
 -- The second counts only where the first lets pass.
-use mathlib.Core.Path.{sym, ◌∙◌}
-use borrow.Author.Rules.{rules}
+use Rattle.std.proofs.Common.{sym, ◌∙◌, rules}
 use Rattle.stepping.specs.StepChecks.{in_turn}
 use Rattle.stepping.proofs.refusal.in_turn.Goals as goal
 

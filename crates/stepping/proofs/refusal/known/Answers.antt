@@ -1,6 +1,5 @@
 -- A thread above 7 is refused.
-use borrow.Author.Tests.{le-ltb, lt-ltb}
-use borrow.Author.Rules.{rules}
+use Rattle.std.proofs.Common.{le-ltb, lt-ltb, rules}
 use Rattle.stepping.specs.StepChecks.{known_of}
 use Rattle.stepping.proofs.refusal.known.Goals as goal
 

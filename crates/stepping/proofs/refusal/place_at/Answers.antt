@@ -1,5 +1,5 @@
 -- By cases.
-use borrow.Author.Rules.{rules}
+use Rattle.std.proofs.Common.{rules}
 use Rattle.stepping.specs.StepChecks.{place_at}
 use Rattle.stepping.proofs.refusal.place_at.Goals as goal
 

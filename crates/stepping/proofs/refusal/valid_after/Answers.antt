@@ -1,6 +1,5 @@
 -- Only a reason that breaks turns validity off.
-use mathlib.Core.Path.{sym, ◌∙◌}
-use borrow.Author.Rules.{rules}
+use Rattle.std.proofs.Common.{sym, ◌∙◌, rules}
 use Rattle.stepping.specs.EventSteps.{valid_after}
 use Rattle.stepping.proofs.refusal.valid_after.Goals as goal
 

@@ -1,6 +1,5 @@
 -- Each kind of event changes its own fields, as the definition has it.
-use mathlib.Core.Path.{refl}
-use borrow.Author.Rules.{rules}
+use Rattle.std.proofs.Common.{refl, rules}
 use Rattle.stepping.specs.OneStep.{change_of}
 use Rattle.stepping.proofs.step.change_of.Goals as goal
 

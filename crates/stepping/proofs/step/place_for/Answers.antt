@@ -1,6 +1,5 @@
 -- An invocation goes behind those held, a return to where its thread has one in flight.
-use mathlib.Core.Path.{refl}
-use borrow.Author.Rules.{rules}
+use Rattle.std.proofs.Common.{refl, rules}
 use Rattle.stepping.specs.OneStep.{place_for}
 use Rattle.stepping.proofs.step.place_for.Goals as goal
 

@@ -1,6 +1,5 @@
 -- By cases.
-use mathlib.Core.Path.{refl}
-use borrow.Author.Rules.{rules}
+use Rattle.std.proofs.Common.{refl, rules}
 use Rattle.stepping.specs.OneStep.{thread_of}
 use Rattle.stepping.proofs.step.thread_of.Goals as goal
 

@@ -1,5 +1,5 @@
 -- Nothing carries no value; a value is told by the number that it is sent as.
-use borrow.Author.Rules.{rules}
+use Rattle.std.proofs.Common.{rules}
 use Rattle.values.specs.Coded.{maybe_coded}
 use Rattle.values.specs.Bits.{back}
 use Rattle.values.proofs.coded.maybe_coded.Goals as goal

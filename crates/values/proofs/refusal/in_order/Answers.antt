@@ -1,5 +1,5 @@
 -- A refusal stands, and else the second check decides.
-use borrow.Author.Rules.{rules}
+use Rattle.std.proofs.Common.{rules}
 use Rattle.values.specs.Checks.{in_order}
 use Rattle.values.proofs.refusal.in_order.Goals as goal
 

@@ -1,10 +1,6 @@
 -- The lowest bit tells the sign, and the others the half.
-use Prim.Native.Nat.{◌%◌}
-use mathlib.Core.Path.{sym, ◌∙◌}
-use lib.Bits.{and_mask}
-use mir.Facts.{to_z-of_z}
-use borrow.Author.Rules.{rules}
-use borrow.Author.Tests.{eq-eqb, ne_eqb}
+use Rattle.std.proofs.Common.{◌%◌, sym, ◌∙◌, to_z-of_z, rules, eq-eqb, ne_eqb}
+use Rattle.std.specs.Int.Bits.{and_mask}
 use Rattle.values.specs.Value.{signed}
 use Rattle.values.proofs.Signed.{half_pos, half_less, half_fits}
 use Rattle.values.proofs.value.signed_of.Goals as goal

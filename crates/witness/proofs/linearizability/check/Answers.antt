@@ -1,8 +1,5 @@
 -- A record in shape and valid has its order replayed, and any other gets no.
-use Prim.Native.Nat.{◌≤◌}
-use mathlib.Core.Path.{◌≡◌, sym, ◌∙◌}
-use lib.ListN.{length}
-use borrow.Author.Rules.{rules}
+use Rattle.std.proofs.Common.{◌≤◌, ◌≡◌, sym, ◌∙◌, length, rules}
 use Rattle.values.specs.Sizes.{threads, capacity, room}
 use Rattle.stepping.specs.Shape.{shape_of}
 use Rattle.recording.specs.Testers.{notes_shaped}

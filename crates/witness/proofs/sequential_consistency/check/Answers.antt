@@ -1,8 +1,5 @@
 -- A record in shape and valid has its order replayed with notes that ask for nothing, and any other gets no.
-use Prim.Native.Nat.{◌*◌, ◌≤◌}
-use mathlib.Core.Path.{◌≡◌, sym, ◌∙◌}
-use lib.ListN.{length, replicate}
-use borrow.Author.Rules.{rules}
+use Rattle.std.proofs.Common.{◌*◌, ◌≤◌, ◌≡◌, sym, ◌∙◌, length, replicate, rules}
 use Rattle.values.specs.Sizes.{threads, capacity, room}
 use Rattle.recording_meaning.specs.Reading.{Sized}
 use Rattle.recording_meaning.specs.Parts.{parts_of}

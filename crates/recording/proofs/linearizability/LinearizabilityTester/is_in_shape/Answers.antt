@@ -1,8 +1,5 @@
 -- The pass over the history answers, with what the notes say.
-use Prim.Native.Nat.{◌-◌}
-use mathlib.Core.Bool.{Bool}
-use mathlib.Core.Path.{ap, ◌∙◌}
-use borrow.Author.Rules.{rules}
+use Rattle.std.proofs.Common.{◌-◌, Bool, ap, ◌∙◌, rules}
 use Rattle.stepping.specs.Shape.{shaped_with}
 use Rattle.shape.specs.Marking.{looks}
 use Rattle.recording.proofs.linearizability.LinearizabilityTester.is_in_shape.Goals as goal

@@ -1,8 +1,5 @@
 -- The history's size, with what the notes say of its shape.
-use Prim.Native.Nat.{◌-◌}
-use mathlib.Core.Bool.{Bool}
-use mathlib.Core.Path.{ap, ◌∙◌}
-use borrow.Author.Rules.{rules}
+use Rattle.std.proofs.Common.{◌-◌, Bool, ap, ◌∙◌, rules}
 use Rattle.stepping.specs.EventSteps.{size_of}
 use Rattle.stepping.specs.Shape.{shaped_with}
 use Rattle.recording.specs.Testers.{linearizability_len}

@@ -1,5 +1,5 @@
 -- The history begins as the object says, with no notes.
-use borrow.Author.Rules.{rules}
+use Rattle.std.proofs.Common.{rules}
 use Rattle.recording.specs.Testers.{new_linearizability}
 use Rattle.recording.proofs.linearizability.LinearizabilityTester.new.Goals as goal
 

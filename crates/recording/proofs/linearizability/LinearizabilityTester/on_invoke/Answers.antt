@@ -1,9 +1,5 @@
 -- The notes are those of an invocation that is taken, and else stay.
-use Prim.Native.Nat.{◌-◌}
-use mathlib.Core.Bool.{Bool}
-use mathlib.Core.Path.{sym, ap, ◌∙◌}
-use native.Mathlib.Omega.{arith}
-use borrow.Author.Rules.{rules}
+use Rattle.std.proofs.Common.{◌-◌, Bool, sym, ap, ◌∙◌, arith, rules}
 use Rattle.stepping.specs.EventSteps.{invoke_of}
 use Rattle.stepping.specs.Shape.{shaped_with}
 use Rattle.recording.specs.Testers.{shaped_tester}

@@ -1,7 +1,5 @@
 -- The return is tried exactly if the invocation was taken.
-use Prim.Native.Nat.{◌-◌}
-use mathlib.Core.Path.{sym, ◌∙◌}
-use borrow.Author.Rules.{rules}
+use Rattle.std.proofs.Common.{◌-◌, sym, ◌∙◌, rules}
 use Rattle.recording.specs.Testers.{linearizability_invret}
 use Rattle.recording.proofs.linearizability.LinearizabilityTester.on_invret.Goals as goal
 

@@ -1,6 +1,5 @@
 -- The pass over the history answers alone.
-use Prim.Native.Nat.{◌-◌}
-use borrow.Author.Rules.{rules}
+use Rattle.std.proofs.Common.{◌-◌, rules}
 use Rattle.shape.specs.Marking.{looks}
 use Rattle.recording.proofs.sequential_consistency.SequentialConsistencyTester.is_in_shape.Goals as goal
 

@@ -1,6 +1,5 @@
 -- The history's size.
-use Prim.Native.Nat.{◌-◌}
-use borrow.Author.Rules.{rules}
+use Rattle.std.proofs.Common.{◌-◌, rules}
 use Rattle.recording.specs.Testers.{sequential_len}
 use Rattle.recording.proofs.sequential_consistency.SequentialConsistencyTester.len.Goals as goal
 

@@ -1,7 +1,5 @@
 -- The history records the event.
-use Prim.Native.Nat.{◌-◌}
-use mathlib.Core.Path.{ap}
-use borrow.Author.Rules.{rules}
+use Rattle.std.proofs.Common.{◌-◌, ap, rules}
 use Rattle.recording.specs.Testers.{sequential_after, sequential_invoke}
 use Rattle.recording.proofs.sequential_consistency.SequentialConsistencyTester.on_invoke.Goals as goal
 
