@@ -1,7 +1,5 @@
 -- `lists::bytes::lay` is safe and ends. The invariant: the storage keeps its length. The measure is the number of bytes left.
-use mathlib.Core.Path.{◌≡◌}
-use Prim.Native.Nat.{◌-◌}
-use lib.ListN.{length}
+use Rattle.std.proofs.Common.{◌≡◌, ◌-◌, length}
 use Rattle.lists.proofs.bytes.lay.Given as goal
 
 abbrev pub invariant-loop-i : goal.invariant-loop-i

@@ -1,8 +1,6 @@
 -- `lists::starts::items_at` is safe and ends. The invariant: the storage keeps its length. The measure is the number of places left.
-use mathlib.Core.Path.{◌≡◌}
-use Prim.Native.Nat.{◌-◌}
+use Rattle.std.proofs.Common.{◌≡◌, ◌-◌, length}
 use Rattle.values.specs.Sizes.{room}
-use lib.ListN.{length}
 use Rattle.lists.proofs.starts.items_at.Given as goal
 
 abbrev pub invariant-loop-i : goal.invariant-loop-i

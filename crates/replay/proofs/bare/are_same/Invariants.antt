@@ -1,10 +1,7 @@
 -- `replay::bare::are_same` is safe and ends. The measure is the number of places left.
-use Prim.Native.Nat.{◌-◌}
+use Rattle.std.proofs.Common.{◌-◌}
 use Rattle.values.specs.Sizes.{room}
 use Rattle.replay.proofs.bare.are_same.Given as goal
-
-abbrev pub invariant-loop-i : goal.invariant-loop-i
-invariant-loop-i l = Unit
 
 abbrev pub decreases-loop-i : goal.decreases-loop-i
 decreases-loop-i l = room - l.i

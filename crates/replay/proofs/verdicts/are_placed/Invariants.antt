@@ -1,10 +1,7 @@
 -- `replay::verdicts::are_placed` is safe and ends. The measure is the number of places left.
-use Prim.Native.Nat.{◌-◌}
+use Rattle.std.proofs.Common.{◌-◌}
 use Rattle.values.specs.Sizes.{capacity}
 use Rattle.replay.proofs.verdicts.are_placed.Given as goal
-
-abbrev pub invariant-loop-i : goal.invariant-loop-i
-invariant-loop-i l = Unit
 
 abbrev pub decreases-loop-i : goal.decreases-loop-i
 decreases-loop-i l = capacity - l.i

@@ -1,6 +1,5 @@
 -- `wall::files::run_of` is safe, ends, and answers a place in the bytes or their end. The measure is that place.
-use Prim.Native.Nat.{◌≤◌}
-use lib.ListN.{length}
+use Rattle.std.proofs.Common.{◌≤◌, length}
 use Rattle.wall.proofs.files.run_of.Given as goal
 
 abbrev pub invariant-loop-from : goal.invariant-loop-from

@@ -1,6 +1,5 @@
 -- `wall::files::say_answer` is safe: the run begins inside the bytes.
-use native.Mathlib.Omega.{arith}
-use lib.ListN.{length-take}
+use Rattle.std.proofs.Common.{arith, length-take}
 use Rattle.wall.proofs.files.say_answer.Goals as goal
 
 pub slice_bounds-say_bytes-end : goal.slice_bounds-say_bytes-end
