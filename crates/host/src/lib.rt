@@ -12,8 +12,7 @@ mod report;
 
 // Judges the file by model 0, sequential, or 1, linearizable. The first bytes of `answer` become the answer, and
 // the others keep what they hold; nothing is written where the number is not 0.
-#[unsafe(no_mangle)]
-pub extern "C" fn kilteshva_judge(file: &[u8], model: u32, budget: u64, answer: &mut [u8]) -> u32
+pub fn kilteshva_judge(file: &[u8], model: u32, budget: u64, answer: &mut [u8]) -> u32
     ensures number { result ≡ call_number model answer.old }
     ensures bytes { answer.new ≡ call_answer file.now model budget answer.old }
 {
