@@ -1,11 +1,12 @@
-"""What stands in the specs of the crates: for each file its declarations, with the names that each one's statement and meaning mention."""
+"""What stands in the specs of the crates, and beside the proofs of their functions: for each file its declarations, with the names that
+each one's statement and meaning mention. A file is named by its crate and its path there, as specs/A."""
 import dataclasses
 import re
 
 NAME = r"[^\s:(){}=]+"
 DECLARES = re.compile(rf"( *)((?:pub |abbrev |unfoldable )*)(data |record )?(?!let )({NAME}(?: {NAME})*?)((?: [({{].*[)}}])?) : (.*)")
 SECTION = re.compile(r"( *)module _(.*)where$")
-USES = re.compile(r"^use Rattle·([a-z_]+)(?:·specs)?\.specs\.([A-Z]\w*)\.\{([^}]*)\}", re.MULTILINE)
+USES = re.compile(r"^use Rattle\.([a-z_]+)\.(specs|proofs)\.([A-Z]\w*)\.\{([^}]*)\}", re.MULTILINE)
 BINDS = re.compile(r"[({]([^(){}:]+) :")
 NAMES = re.compile(r"(?<![^\s(){},;λ])[^\s(){},;.λ]+")
 
@@ -91,17 +92,18 @@ def read(path):
             if form and name not in declarations:
                 declarations[name] = Declaration(name, True, True, "", "", ())
     uses = {}
-    for crate, module, names in USES.findall(text):
+    for crate, folder, module, names in USES.findall(text):
         for name in names.replace("\n", " ").split(","):
             first, _, other = name.strip().partition(" as ")
             if first:
-                uses[other or first] = (crate, module, first)
+                uses[other or first] = (crate, f"{folder}/{module}", first)
     return File(declarations, uses)
 
 
 def specs(top):
-    """Every specs file of the repository, by crate and name."""
-    return {(path.parts[-3], path.stem): read(path) for path in sorted(top.glob("crates/*/specs/*.antt"))}
+    """Every file of specs/ and right in proofs/, by crate and name."""
+    paths = sorted([*top.glob("crates/*/specs/*.antt"), *top.glob("crates/*/proofs/*.antt")])
+    return {(path.parts[-3], f"{path.parts[-2]}/{path.stem}"): read(path) for path in paths}
 
 
 def rests_on(files, roots):
