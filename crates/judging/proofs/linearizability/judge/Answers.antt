@@ -27,6 +27,6 @@ returns c =
     let shaped = c.is_in_shape.ensures in
     c.without_order.ensures
     ∙ elim c.if-is_in_shape.branch [
-      then-is_in_shape+else-history w ↦ judge_by linearizability_model a.tester a.budget true false (sym shaped ∙ w.if-is_in_shape.true) w.if-history.false
-    | else-is_in_shape w ↦ judge_by linearizability_model a.tester a.budget false a.tester.history.valid (sym shaped ∙ w.if-is_in_shape.false) refl
+      | then-is_in_shape+else-history w ↦ judge_by linearizability_model a.tester a.budget true false (sym shaped ∙ w.if-is_in_shape.true) w.if-history.false
+      | else-is_in_shape w ↦ judge_by linearizability_model a.tester a.budget false a.tester.history.valid (sym shaped ∙ w.if-is_in_shape.false) refl
     ]

@@ -50,11 +50,10 @@ bounds-history-at c =
     here_small c.loop-left.invariant c.if-left-eq0.false _ c.ready-k.ensures c.if-k-lt-THREADS.true
 
 pub allowed-requires : goal.allowed-requires
-allowed-requires c =
-    (
-      here_small c.loop-left.invariant c.if-left-eq0.false _ c.ready-k.ensures c.if-k-lt-THREADS.true,
-      (fits c.loop-left.invariant).progress_long,
-    )
+allowed-requires c = (
+  here_small c.loop-left.invariant c.if-left-eq0.false _ c.ready-k.ensures c.if-k-lt-THREADS.true,
+  (fits c.loop-left.invariant).progress_long,
+)
 
 pub offset_bounds-levels-depth : goal.offset_bounds-levels-depth
 offset_bounds-levels-depth c =

@@ -39,10 +39,10 @@ loop-i-preserved c =
     let long : length h.ops ≡ capacity = search rules in
     let enough : h.count ≤ length h.ops = omega (arith, long, c.requires) in
     elim c.if-o-thread.branch [
-      then-o-thread+else-left-eq0 w ↦ subst (λ (n : ℕ). Finding h t k n (i + 1)) (sym w.left-is)
+      | then-o-thread+else-left-eq0 w ↦ subst (λ (n : ℕ). Finding h t k n (i + 1)) (sym w.left-is)
           (find_own h enough t k c.loop-i.left i c.loop-i.invariant l w.if-o-thread.true w.if-left-eq0.false)
-    | else-o-thread w ↦ subst (λ (n : ℕ). Finding h t k n (i + 1)) (sym w.left-is)
-        (find_other h enough t k c.loop-i.left i c.loop-i.invariant l w.if-o-thread.false)
+      | else-o-thread w ↦ subst (λ (n : ℕ). Finding h t k n (i + 1)) (sym w.left-is)
+          (find_other h enough t k c.loop-i.left i c.loop-i.invariant l w.if-o-thread.false)
     ]
 
 pub returns : goal.returns
