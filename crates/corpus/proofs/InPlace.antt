@@ -22,18 +22,18 @@ use Rattle.recording.specs.Testers.{notes_shaped}
 use Rattle.stepping.specs.EventSteps.{is_taken, valid_after, step}
 use Rattle.recording.specs.Testers.{linearizability, shaped_tester, linearizability_after, invoked_by, linearizability_invoke, linearizability_return}
 use Rattle.shape.specs.Notes.{notes_with}
-use Rattle.shape.specs.NotesLaws.{noted_in}
+use Rattle.shape.proofs.NotesLaws.{noted_in}
 use Rattle.stepping.specs.StepChecks.{Known, place_in, place_at}
 use Rattle.stepping.specs.OneStep.{event_of, thread_of, comes_to, place_for, changed, change_at, change_invoked, change_returned, thread_invoked, mark_invoked, mark_returned}
 use Rattle.stepping.specs.Admitting.{Fits}
-use Rattle.stepping.specs.Admitting as admitting
+use Rattle.stepping.proofs.Admitting as admitting
 use Rattle.recording_meaning.specs.Models.{linearizability_model}
 use Rattle.recording_meaning.specs.Inputs.{as_input}
 use Rattle.recording_meaning.specs.Beginning.{begun_clear}
 use Rattle.recording_meaning.specs.Lawful.{linearizability_lawful}
 use Rattle.recording_meaning.specs.EventTurns.{Good, good_shaped}
 use Rattle.recording_meaning.specs.Reaching.{good_new}
-use Rattle.recording_meaning.specs.TesterFeeding.{good_give, new_valid}
+use Rattle.recording_meaning.proofs.TesterFeeding.{good_give, new_valid}
 use Rattle.recording_meaning.specs.Marks.{Marks, marks_fresh, marks_extended, marks_completed}
 use Rattle.format.specs.ReadAnswers.{heard}
 use Rattle.corpus.specs.Load.{record_event}

@@ -5,4 +5,3 @@ pub mod Loaded
 pub mod LoadsAlike
 pub mod Files
 pub mod FileStarts
-pub mod TraceLoads

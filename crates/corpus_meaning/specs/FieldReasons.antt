@@ -5,7 +5,7 @@ use Rattle.numbers.specs.declared.refusal.Refusal.TheVariants.{TooLong, Unopened
 use Rattle.numbers.specs.Reader.{Read, got, refused, Reader, later, from, give, refuse, behind, ◌then◌}
 use Rattle.numbers.specs.Number.{number}
 use Rattle.numbers.specs.Forms.{When}
-use Rattle.numbers.specs.NumberExactly.{number_exactly}
+use Rattle.numbers.proofs.NumberExactly.{number_exactly}
 use Rattle.format.specs.Taking.{OfField, Built, one_number, no_bytes, never, either, next_to, fewer}
 
 -- What is read, if it is refused, is refused for a reason of its own.

@@ -6,7 +6,7 @@ use Rattle.std.proofs.lemmas.List.{length-replicate}
 use Rattle.std.proofs.Math.ListN.{get_elem? as nth}
 use Rattle.theory.specs.Tree.{count}
 use Rattle.theory.specs.Space.{busy, powers}
-use Rattle.theory.specs.Judge.{search_bound}
+use Rattle.theory.proofs.Judge.{search_bound}
 use Rattle.history.specs.Object.{Object}
 use Rattle.history.specs.Rows.{Entry, Rows, row, operations, has_one, threads_used}
 use Rattle.history.specs.Lists.{get_d_same}

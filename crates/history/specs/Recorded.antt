@@ -1,13 +1,13 @@
 -- Whatever notes are kept: rows fed from fresh are in shape, and each thread's events are those of its row.
-use Rattle.std.specs.Prelude.{ℕ, suc, ◌<◌, ◌≡◌, refl, ◌≢◌, true, false, cond, List, [], ◌∷◌, ◌++◌, length, replicate}
-use Rattle.std.proofs.Common.{sym, ap, ◌∙◌, subst, append-nil, eq-eqb, arith}
+use Rattle.std.specs.Prelude.{ℕ, ◌<◌, ◌≡◌, refl, ◌≢◌, true, false, List, [], ◌∷◌, ◌++◌, length, replicate}
+use Rattle.std.proofs.Common.{sym, ap, ◌∙◌, subst, append-nil}
 use Rattle.std.proofs.Math.Option.{Option, none, some}
 use Rattle.history.specs.Object.{Object}
-use Rattle.history.specs.Events.{Event, Events, invoked, returned, thread_of, invocations, returns, sub, Alternates, nothing, waiting, call, WellFormed}
+use Rattle.history.specs.Events.{Event, Events, invoked, returned, thread_of, sub, Alternates, nothing, waiting, call, WellFormed}
 use Rattle.history.specs.Rows.{Entry, Rows, row, Shaped, AllShaped, empty, in_flight, completed_first}
-use Rattle.history.specs.Recorder.{pending, flying, completed, extend, close_row, close, new, Fed}
+use Rattle.history.specs.Recorder.{pending, flying, extend, close_row, close, new, Fed}
 use Rattle.history.specs.Lists.{not_both, get_d_same}
-use Rattle.history.specs.Splits.{sub_append, sub_mine, sub_not_mine, counts_sub}
+use Rattle.history.specs.Splits.{sub_append, sub_mine, sub_not_mine}
 use Rattle.history.specs.Feeding.{each_row, fed_along}
 
 module _ (O : Object) where
@@ -56,18 +56,6 @@ module _ (O : Object) where
   spell_alternates t (in_flight n) = rw n waiting
   spell_alternates t (completed_first n s) = rw n (call (spell_alternates t s))
 
-  response_counts : (t : ℕ) (a : Option O.Ret) (H : Events O)
-      → (invocations O t (response_of t a H) ≡ invocations O t H) × (returns O t (response_of t a H) ≡ cond (pending O a) (returns O t H) (suc (returns O t H)))
-  response_counts t none H = (refl, refl)
-  response_counts t (some q) H = (omega arith, rw (eq-eqb t t refl) (omega arith))
-
-  spell_counts : (t : ℕ) (r : List (Entry O)) → (invocations O t (spell t r) ≡ length r) × (returns O t (spell t r) ≡ completed O r)
-  spell_counts t [] = (refl, refl)
-  spell_counts t (e ∷ r) =
-      let a = response_counts t e.ret (spell t r) in
-      let h = spell_counts t r in
-      (rw (eq-eqb t t refl, a.0, h.0) (omega arith), rw (a.1, h.1) (omega arith))
-
   -- what rows hold of events
   pub record Held (H : Events O) (rows : Rows O) : Type 0 where
     pub shaped : AllShaped O rows
@@ -104,12 +92,6 @@ module _ (O : Object) where
   -- Rows fed from fresh are in shape, and each thread's events are those of its row.
   pub fed_held : {keep : Rows O → ℕ → List ℕ} {k : ℕ} {H : Events O} {rows : Rows O} → Fed O keep k H rows → Held H rows
   fed_held {keep} {k} w = fed_along O keep Held (λ H rows t o. held_invoked H rows t (new O keep rows t o) refl) held_returned (held_fresh k) w
-
-  pub held_many : {H : Events O} {rows : Rows O} → Held H rows → (t : ℕ) → length (row O rows t) ≡ invocations O t H
-  held_many {H} {rows} w t = sym (spell_counts t (row O rows t)).0 ∙ ap (invocations O t) (sym (w.spelt t)) ∙ (counts_sub O t H).0
-
-  pub held_done : {H : Events O} {rows : Rows O} → Held H rows → (t : ℕ) → completed O (row O rows t) ≡ returns O t H
-  held_done {H} {rows} w t = sym (spell_counts t (row O rows t)).1 ∙ ap (returns O t) (sym (w.spelt t)) ∙ (counts_sub O t H).1
 
   pub held_formed : {H : Events O} {rows : Rows O} → Held H rows → WellFormed O H
   held_formed w t = subst (Alternates O) (sym (w.spelt t)) (spell_alternates t (w.shaped t))

@@ -2,7 +2,7 @@
 use Rattle.std.proofs.Common.{ℕ, suc, ◌≡◌, sym, ap, ◌∙◌, List, ◌++◌, arith, drop}
 use Rattle.host.specs.declared.report.Report.{Report}
 use Rattle.host.specs.Call.{report_of, bytes_of, answer_size, model_of, call_number, call_answer}
-use Rattle.host.specs.CallMeant.{calls}
+use Rattle.host.proofs.CallMeant.{calls}
 
 module _ (file answer : List ℕ) (model budget : ℕ) where
   pub unwritten : (n : ℕ) → call_number model answer ≡ suc n → (suc n ≡ call_number model answer) × (answer ≡ call_answer file model budget answer)

@@ -1,3 +1,5 @@
+pub mod CallMeant
+pub mod Trace
 pub mod Laying
 pub mod Threading
 pub mod Calling

@@ -2,5 +2,4 @@ pub mod Call
 pub mod Ordered
 pub mod Loads
 pub mod CallMeaning
-pub mod CallMeant
 pub mod Trace

@@ -14,7 +14,7 @@ use Rattle.recording_meaning.specs.Lawful.{Lawful}
 use Rattle.recording_meaning.specs.EventTurns.{good_shaped}
 use Rattle.recording_meaning.specs.Reaching.{good_new}
 use Rattle.recording_meaning.specs.Inputs.{as_input, as_inputs, broke, broken, drawn}
-use Rattle.recording_meaning.specs.TesterFeeding.{step_of, good_feed, invalid_exactly}
+use Rattle.recording_meaning.proofs.TesterFeeding.{step_of, good_feed, invalid_exactly}
 use Rattle.judging.specs.declared.answer.Verdict.TheVariants.{Invalid}
 use Rattle.judging.specs.Answers.{judge_of}
 use Rattle.numbers.specs.declared.refusal.Refusal.{Refusal}
@@ -23,8 +23,9 @@ use Rattle.numbers.specs.FileRefusals.{number_of}
 use Rattle.numbers.specs.Reader.{Read, got, refused}
 use Rattle.format.specs.Format.{header}
 use Rattle.corpus.specs.Load.{Load, record_event, record_events, load_of}
-use Rattle.corpus.specs.Loaded.{AllRecorded, Outcome, ended, unread, unrecorded, loaded, not_loaded}
-use Rattle.corpus.specs.Files.{number_zero, whole_loads}
+use Rattle.corpus.specs.Loaded.{AllRecorded, Outcome, ended, unread, unrecorded}
+use Rattle.corpus.proofs.Loaded.{loaded, not_loaded}
+use Rattle.corpus.proofs.Files.{number_zero, whole_loads}
 use Rattle.host.specs.Ordered.{ordered, sound_verdict, invalid_verdict}
 
 -- 4 or 5, by number

@@ -19,20 +19,20 @@ use Rattle.recording_meaning.specs.Models.{Model}
 use Rattle.recording_meaning.specs.Lawful.{Lawful}
 use Rattle.recording_meaning.specs.EventTurns.{Good}
 use Rattle.recording_meaning.specs.Reaching.{good_new}
-use Rattle.recording_meaning.specs.TesterFeeding.{good_feed}
+use Rattle.recording_meaning.proofs.TesterFeeding.{good_feed}
 use Rattle.judging.specs.declared.answer.Placed.{Placed}
 use Rattle.judging.specs.Answers.{nobody_there}
 use Rattle.judging_meaning.specs.Judging.{item, Answered}
-use Rattle.judging_meaning.specs.Judged.{judges}
+use Rattle.judging_meaning.proofs.Judged.{judges}
 use Rattle.numbers.specs.Reader.{Read, got, refused}
 use Rattle.format.specs.Format.{header}
 use Rattle.format.specs.Lengths.{header_short}
 use Rattle.corpus.specs.Load.{load_of}
-use Rattle.corpus.specs.Loaded.{not_loaded}
-use Rattle.corpus.specs.Files.{loaded_fed, place_in, place_zero}
+use Rattle.corpus.proofs.Loaded.{not_loaded}
+use Rattle.corpus.proofs.Files.{loaded_fed, place_in, place_zero}
 use Rattle.host.specs.Call.{threads_of, report_of, little, head_of, bytes_of, answer_size, model_of, call_number}
 use Rattle.host.specs.CallMeaning.{judged_of, Says, sum}
-use Rattle.host.specs.CallMeant.{says, calls, lawful_of, little_sum}
+use Rattle.host.proofs.CallMeant.{says, calls, lawful_of, little_sum}
 use Rattle.host_meaning.specs.AnswerBytes.{buffer, byte, AnswerBytes}
 
 -- the digits of a number to the base 256

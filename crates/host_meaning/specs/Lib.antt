@@ -2,7 +2,6 @@
 pub mod Telling
 -- That it says so.
 pub mod Whole
-pub mod Told
 -- What each byte of the answer says, by its offset, and that it says so.
 pub mod AnswerBytes
 pub mod BytesTold

@@ -13,7 +13,7 @@ use Rattle.recording_meaning.specs.Lawful.{Lawful}
 use Rattle.recording_meaning.specs.Inputs.{as_inputs, taken}
 use Rattle.recording_meaning.specs.InputLaws.{takes_event}
 use Rattle.recording_meaning.specs.Meaning.{Fresh}
-use Rattle.recording_meaning.specs.Meant.{meaning}
+use Rattle.recording_meaning.proofs.Meant.{meaning}
 use Rattle.corpus.specs.Load.{record_event}
 use Rattle.corpus.specs.Loaded.{AllRecorded}
 use Rattle.corpus.specs.Files.{Whole}

@@ -10,5 +10,3 @@ pub mod Giving
 pub mod SearchMachine
 pub mod Leading
 pub mod SearchRunning
-pub mod SearchTurns
-pub mod Unnoted

@@ -6,7 +6,8 @@ use Rattle.theory.specs.Space.{idle, refused, place, Space}
 use Rattle.theory.specs.Undoing.{Ground, Undoing}
 use Rattle.history.specs.Space.{Node, next, met, gives, placing, space, size}
 use Rattle.history.specs.Moves.{falls}
-use Rattle.history.specs.Left.{spent, left}
+use Rattle.history.specs.Left.{left}
+use Rattle.history.proofs.Left.{spent}
 use Rattle.history.specs.Space.{unplaced}
 use Rattle.values.specs.Sizes.{threads, capacity, room}
 use Rattle.families.specs.Families.{families, State, answers, right}

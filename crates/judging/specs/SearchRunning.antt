@@ -1,42 +1,19 @@
 -- The search loop's invariant: how it begins, what is answered where it ends, and what an attempt that is turned away does to it.
-use Rattle.std.specs.Prelude.{ℕ, ◌+◌, ◌-◌, ◌*◌, ◌≤◌, ◌<◌, ◌≡◌, refl, ◌≢◌, true, false, length, get_or, replicate, ℤ}
-use Rattle.std.proofs.Common.{sym, ap, ◌∙◌, add-one, arith}
-use Rattle.std.proofs.Math.Option.{some}
-use mathlib.Core.List.{List, [], append-nil}
-use Rattle.theory.specs.Space.{idle, refused}
-use Rattle.theory.specs.Budget.{judge}
-use Rattle.theory.specs.Judge.{tree}
-use Rattle.theory.specs.Machine.{trail}
+use Rattle.std.specs.Prelude.{ℕ, ◌≡◌, true, length, ℤ}
+use mathlib.Core.List.{List}
 use Rattle.theory.specs.Store.{none_stored}
-use Rattle.theory.specs.Loop.{levels as levels_above}
-use Rattle.theory.specs.Undoing.{frames, trail_shown}
-use Rattle.theory.specs.Going.{Going, going_root, going_fits, going_skip, going_refused, tree_of, start_of, answer_order, answer_none, answer_open}
-use Rattle.history.specs.Space.{Node, next as next_of, met, all_placed, root}
-use Rattle.history.specs.Moves.{falls}
-use Rattle.history.specs.Left.{left, placed_none, placed_some}
-use Rattle.values.specs.Sizes.{threads, capacity, room}
+use Rattle.theory.specs.Going.{Going, start_of}
+use Rattle.history.specs.Left.{left}
+use Rattle.values.specs.Sizes.{capacity}
 use Rattle.families.specs.Families.{families}
-use Rattle.families.specs.Placing.{held_of, fits_of}
-use Rattle.families.specs.States.{state_of, kind_held}
 use Rattle.values.specs.declared.held.Held.{Held}
 use Rattle.stepping.specs.declared.histories.History.{History}
-use Rattle.stepping.specs.Record.{operation_at}
 use Rattle.stepping.specs.Shape.{shape_of}
 use Rattle.recording_meaning.specs.Reading.{Sized, rows_of}
-use Rattle.recording_meaning.specs.Rowing.{rows_many}
-use Rattle.recording_meaning.specs.Parts.{parts_of}
-use Rattle.families.specs.Room.{start_room_lem, room_fewer}
-use Rattle.recording_meaning.specs.ShapeExactly.{shape_exactly}
-use Rattle.judging.specs.declared.answer.Verdict.TheVariants.{Order, NoOrder, Undecided}
 use Rattle.judging.specs.declared.search.Level.{Level}
-use Rattle.judging.specs.Answers.{placed, judged_of}
-use Rattle.judging.specs.Places.{places_of, Indexed, Ready, sum_of}
-use Rattle.judging.specs.PlacesLaws.{places_few}
+use Rattle.judging.specs.Places.{Indexed}
 use Rattle.judging.specs.Playing.{Situation, situation, origin}
-use Rattle.judging.specs.SearchStops.{Stops}
-use Rattle.judging.specs.Rowing.{entry_at, left_origin, unplaced_origin}
-use Rattle.judging.specs.Leading.{led}
-use Rattle.judging.specs.SearchMachine.{lv_of, node_of, Fits, S, G, U, move_idle, move_open, move_early, move_wrong, is_next, below}
+use Rattle.judging.specs.SearchMachine.{lv_of, S, G, U}
 
 -- The loop goes as the machine does from the origin.
 abbrev pub Goes : (ℕ → List ℕ) → History → ℕ → List ℕ → List Level → ℕ → Situation → ℕ → ℕ → Type 0
@@ -54,144 +31,8 @@ pub record Running (needs : ℕ → List ℕ) (h : History) (budget : ℕ) (slot
   pub path_long : length path ≡ capacity
   pub levels_long : length levels ≡ capacity
 
--- the loop begins
-pub running_start : (needs : ℕ → List ℕ) (h : History) (budget : ℕ) (slot started path : List ℕ) (levels : List Level) (held : Held) (remaining : ℕ)
-    → held ≡ held_of h.start.kind → remaining ≡ sum_of h.done → Sized h → length h.start.items ≡ room → shape_of h ≡ true → Indexed h slot started
-    → length path ≡ capacity → length levels ≡ capacity
-    → Running needs h budget slot started path levels 0 (situation h.start.items held (replicate threads 0)) remaining 0 0
-running_start needs h budget slot started path levels held remaining e r z i sh ix pl ll = rw e (record {
-  going = going_root (S needs h) (G needs h) (U needs h) (origin h) budget (lv_of path levels) (record {
-    roomy = room_fewer h.start.kind (held_of h.start.kind) capacity _ (omega (arith, unplaced_origin needs h z sh))
-        (start_room_lem h.start.kind ((shape_exactly h z).1 sh).startable);
-    deep = omega (arith, unplaced_origin needs h z sh);
-    items_long = i;
-    progress_long = refl;
-    begins = λ q. refl;
-  });
-  left_is = r ∙ sym (left_origin needs h z sh);
-  sized = z;
-  shape = sh;
-  indexed = ix;
-  path_long = pl;
-  levels_long = ll;
-})
-
--- what is judged is the search from the origin
-judged_from : (needs : ℕ → List ℕ) (h : History) (b : ℕ) → judged_of needs h b ≡ judge b (tree_of (S needs h) (G needs h) (U needs h) (origin h))
-unfolding judged_of
-judged_from needs h b =
-    let e : root families (rows_of needs h) (state_of h.start.kind h.start.items) ≡ node_of needs h (origin h)
-    = rw (rows_many needs h, kind_held h.start.kind) in
-    ap (λ (x : Node families). judge b (tree (S needs h) (G needs h).size (falls families (rows_of needs h)) x)) e
-
 module _ {needs : ℕ → List ℕ} {h : History} {budget : ℕ} {slot started path : List ℕ} {levels : List Level} {d : ℕ} {items : List ℤ} {held : Held}
     {progress : List ℕ} {remaining next n : ℕ}
     (g : Running needs h budget slot started path levels d (situation items held progress) remaining next n) where
-  abbrev s : Situation
+  abbrev pub s : Situation
   s = situation items held progress
-
-  pub fits : Fits needs h d s
-  fits = going_fits (S needs h) (G needs h) (U needs h) none_stored g.going
-
-  pub next_small : next ≤ threads
-  next_small = rw (rows_many needs h) at g.going.small
-
-  pub depth_small : d ≤ capacity
-  depth_small = omega (arith, fits.deep)
-
-  pub within : n ≤ budget
-  within = g.going.within
-
-  finished : remaining ≡ 0 → all_placed families (rows_of needs h) progress ≡ true
-  finished e = placed_none families (rows_of needs h) progress (sym g.left_is ∙ e)
-
-  pub still : remaining ≢ 0 → all_placed families (rows_of needs h) progress ≡ false
-  still e = placed_some families (rows_of needs h) progress (λ z. e (g.left_is ∙ z))
-
-  -- every completed operation is placed
-  pub found : remaining ≡ 0 → Stops (judged_of needs h budget) h path (record { verdict = Order; depth = d; attempts = n })
-  unfolding Stops
-  found e =
-      let w = led needs h path levels d s (omega (arith, depth_small, g.path_long)) g.going.fine in
-      record {
-        steps = trail (levels_above (S needs h) (G needs h).size (node_of needs h s) (frames (S needs h) (U needs h) (lv_of path levels) d s)) [];
-        is = judged_from needs h budget ∙ answer_order (S needs h) (G needs h) (U needs h) (origin h) g.going (finished e);
-        shown = trail_shown (S needs h) (U needs h) (G needs h).size placed (lv_of path levels) d s [] ∙ w.shows [] ∙ append-nil _;
-        within = depth_small;
-        playable = w.playable;
-      }
-
-  -- the next thread that has something to place is k, or there is none
-  module _ (unfinished : remaining ≢ 0) (k : ℕ) (r : Ready started progress next k) where
-    pub at_k : Goes needs h budget path levels d s k n
-    at_k =
-        let a = r.above in
-        let b = r.below in
-        let e : next + (k - next) ≡ k = omega arith in
-        going_skip (S needs h) (G needs h) (U needs h) none_stored next (k - next) k g.going (still unfinished) e (rw (rows_many needs h) b)
-        (λ j x y.
-        let low : j < threads = omega arith in
-        move_idle needs h g.sized g.shape s d fits j low (omega (arith, r.passed j x y, g.indexed.counts j low)))
-
-    -- no thread, and no level above
-    pub exhausted : threads ≤ k → d ≡ 0 → Stops (judged_of needs h budget) h path (record { verdict = NoOrder; depth = d; attempts = n })
-    unfolding Stops
-    exhausted l z =
-        let b = r.below in
-        judged_from needs h budget
-        ∙ answer_none (S needs h) (G needs h) (U needs h) (origin h) at_k (still unfinished) (omega (arith, rows_many needs h)) z
-
-    module _ (low : k < threads) where
-      -- the place of the operation
-      abbrev here : ℕ
-      here = get_or slot (k * capacity + get_or progress k 0) 0
-
-      pub has : get_or progress k 0 < length (places_of h k)
-      has = omega (arith, r.has low, g.indexed.counts k low)
-
-      pub low_row : k < length (rows_of needs h)
-      low_row = omega (arith, rows_many needs h)
-
-      pub progress_small : get_or progress k 0 < capacity
-      progress_small = omega (arith, has, places_few h k h.count, (parts_of h g.shape).few)
-
-      pub slot_at : k * capacity + get_or progress k 0 < threads * capacity
-      slot_at = omega (arith, progress_small)
-
-      pub at_here : get_or (places_of h k) (get_or progress k 0) 0 ≡ get_or slot (k * capacity + get_or progress k 0) 0
-      at_here = sym (g.indexed.at k (get_or progress k 0) low has)
-
-      pub here_small : get_or slot (k * capacity + get_or progress k 0) 0 < capacity
-      here_small = omega (arith, below needs h g.sized g.shape s d fits k low has here at_here, (parts_of h g.shape).few)
-
-      pub next_here : next_of (rows_of needs h) progress k ≡ some (entry_at needs h here)
-      next_here = is_next needs h g.sized g.shape s d fits k low has here at_here
-
-      pub not_idle : (S needs h).move (node_of needs h s) k ≡ idle → ⊥
-      not_idle = move_open needs h g.sized g.shape s d fits k low has here at_here
-
-      -- the budget is used up
-      pub used : n ≡ budget → Stops (judged_of needs h budget) h path (record { verdict = Undecided; depth = d; attempts = n })
-      unfolding Stops
-      used e =
-          judged_from needs h budget
-          ∙ answer_open (S needs h) (G needs h) (U needs h) (origin h) at_k (still unfinished) low_row not_idle e
-
-      module _ (unused : n ≢ budget) where
-        turned_away : (S needs h).move (node_of needs h s) k ≡ refused → Running needs h budget slot started path levels d s remaining (k + 1) (n + 1)
-        turned_away e = rw (add-one k, add-one n) (record {
-          going = going_refused (S needs h) (G needs h) (U needs h) none_stored at_k (still unfinished) low_row e unused;
-          left_is = g.left_is;
-          sized = g.sized;
-          shape = g.shape;
-          indexed = g.indexed;
-          path_long = g.path_long;
-          levels_long = g.levels_long;
-        })
-
-        pub turn_early : met (needs here) progress ≡ false → Running needs h budget slot started path levels d s remaining (k + 1) (n + 1)
-        turn_early e = turned_away (move_early needs h g.sized g.shape s d fits k low has here at_here e)
-
-        pub turn_wrong : met (needs here) progress ≡ true → fits_of items held (operation_at h here).op (operation_at h here).outcome ≡ false
-            → Running needs h budget slot started path levels d s remaining (k + 1) (n + 1)
-        turn_wrong m e = turned_away (move_wrong needs h g.sized g.shape s d fits k low has here at_here m e)

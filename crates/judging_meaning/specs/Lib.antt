@@ -8,8 +8,6 @@ pub mod RustJudge
 pub mod TurnsCounted
 -- That the answers mean it.
 pub mod Within
-pub mod Judged
-pub mod JudgedFresh
 -- That verdicts only move one way.
 pub mod FurtherInputs
 pub mod VerdictsOneWay

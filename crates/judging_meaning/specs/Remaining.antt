@@ -10,7 +10,7 @@ use Rattle.history.specs.Recorder.{pending}
 use Rattle.history.specs.Lists.{not_some, nth_drop}
 use Rattle.history.specs.Progress.{next_row}
 use Rattle.history.specs.Space.{next, more, only_pending, all_placed}
-use Rattle.history.specs.Explaining.{shaped_drop}
+use Rattle.history.proofs.Explaining.{shaped_drop}
 use Rattle.recording_meaning.specs.Rust.{Keeps, get, insert, remove}
 use Rattle.recording_meaning.specs.RustMaps.{entry, tabled, with_complete, completes, history_entry, or_flight, flight_entry}
 use Rattle.recording_meaning.specs.Tables.{get_tabled, insert_tabled, remove_tabled}

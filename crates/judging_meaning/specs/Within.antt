@@ -7,7 +7,8 @@ use Rattle.history.specs.Rows.{Rows, operations}
 use Rattle.history.specs.Orders.{Order, LegalOrder}
 use Rattle.history.specs.Space.{unplaced, space, size}
 use Rattle.history.specs.Moves.{falls}
-use Rattle.history.specs.Ways.{Steps, strip, order_way}
+use Rattle.history.specs.Ways.{Steps, strip}
+use Rattle.history.proofs.Ways.{order_way}
 
 -- a way has no more steps than the situation is large
 leads_within : {L : Type 0} (S : Space L) (size : S.Node → ℕ) → Falls S size → {x : S.Node} {p : List (Step S)} → Leads S x p → length p ≤ size x

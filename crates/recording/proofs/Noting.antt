@@ -20,7 +20,7 @@ use Rattle.recording.specs.Testers.{shaped_tester, notes_after, linearizability_
 use Rattle.shape.specs.Notes.{notes_with}
 use Rattle.stepping.specs.RecordLaws.{never}
 use Rattle.shape.specs.Notes.{noted_at}
-use Rattle.shape.specs.NotesLaws.{noted_in}
+use Rattle.shape.proofs.NotesLaws.{noted_in}
 
 -- there is room, and the thread is one of the eight
 pub taken_in : (shaped : Bool) (h : History) (t : ℕ) (op : Op) (s : Step) → s ≡ invoke_of shaped h t op → is_taken s.recorded ≡ true

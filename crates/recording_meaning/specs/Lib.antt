@@ -27,16 +27,9 @@ pub mod Beginning
 pub mod Lawful
 pub mod EventTurns
 pub mod Reaching
-pub mod NumbersExactly
-pub mod Nines
 pub mod TesterFeeding
-pub mod Wellfed
-pub mod Meant
 pub mod TestersAlike
 pub mod Marks
 -- What the Rust does.
 pub mod Tables
-pub mod RustSteps
 pub mod RustAgrees
-pub mod Fitting
-pub mod RustFeeding

@@ -1,2 +1,3 @@
+pub mod NotesLaws
 pub mod Looking
 pub mod Passing

@@ -1,4 +1,3 @@
 pub mod Notes
-pub mod NotesLaws
 pub mod Pass
 pub mod Marking

@@ -3,13 +3,10 @@ pub mod Least
 pub mod Space
 pub mod Ways
 pub mod Rising
-pub mod Bound
 pub mod Judge
 pub mod Budget
-pub mod Verdicts
 pub mod Store
 pub mod Machine
-pub mod Running
 pub mod Slices
 pub mod Loop
 pub mod Undoing

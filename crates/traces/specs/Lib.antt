@@ -1,8 +1,6 @@
 -- Document 01's traces that are proved of the meanings: the list, and the proof.
 pub mod Traces
 pub mod Later
-pub mod Proved
 -- Records out of shape, one or more for each cause: what is claimed of one, the list, and the proof.
 pub mod Faults
 pub mod FaultList
-pub mod FaultsShown

@@ -8,7 +8,7 @@ use Rattle.history.specs.Rows.{Entry, Rows}
 use Rattle.history.specs.Recorder.{pending}
 use Rattle.history.specs.Space.{Node, next, met, gives, stepped, placing, trying, size, root, Plays}
 use Rattle.history.specs.Moves.{falls, plays_move}
-use Rattle.history.specs.Left.{spent}
+use Rattle.history.proofs.Left.{spent}
 use Rattle.history.specs.Attempts.{size_root}
 use Rattle.values.specs.Value.{pick}
 use Rattle.values.specs.Sizes.{threads, capacity, room}

@@ -3,7 +3,7 @@ use Rattle.std.specs.Prelude.{ℕ, ◌≡◌, refl, ◌↔◌, true, List}
 use Rattle.std.proofs.Common.{subst}
 use Rattle.history.specs.Orders.{Order, LegalOrder}
 use Rattle.history.specs.Space.{root}
-use Rattle.history.specs.Endings.{legal_orders}
+use Rattle.history.proofs.Endings.{legal_orders}
 use Rattle.families.specs.Families.{families}
 use Rattle.families.specs.Same.{lawful}
 use Rattle.semantics.specs.Invoking.{holds}

@@ -1,6 +1,6 @@
 use Rattle.std.proofs.Common.{ℕ, ◌≡◌, sym, subst, arith, rules}
 use Rattle.host.specs.Call.{report_of, model_of}
-use Rattle.host.specs.CallMeant.{calls}
+use Rattle.host.proofs.CallMeant.{calls}
 use Rattle.host.proofs.Calling.{unwritten, written}
 use Rattle.host.proofs.kilteshva_judge.Goals as goal
 

@@ -3,7 +3,7 @@ use Rattle.std.proofs.Common.{sym, ap, ◌∙◌, rules}
 use Rattle.recording.specs.Testers.{sequential}
 use Rattle.corpus.specs.declared.linearizability.Loaded.{Loaded}
 use Rattle.corpus.specs.LoadAnswers.{as_sequential}
-use Rattle.corpus.specs.LoadsAlike.{loads_alike}
+use Rattle.corpus.proofs.LoadsAlike.{loads_alike}
 use Rattle.corpus.proofs.sequential_consistency.load.Goals as goal
 
 pub returns : goal.returns

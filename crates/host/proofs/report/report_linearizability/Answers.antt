@@ -3,7 +3,7 @@ use Rattle.std.proofs.Common.{sym, ap, ◌∙◌, rules}
 use Rattle.recording_meaning.specs.Models.{linearizability_model}
 use Rattle.host.specs.Call.{judged_report}
 use Rattle.host.specs.Ordered.{ordered, length_within}
-use Rattle.host.specs.CallMeant.{is_judged, is_refused}
+use Rattle.host.proofs.CallMeant.{is_judged, is_refused}
 use Rattle.host.proofs.report.report_linearizability.Goals as goal
 
 pub returns-then-number-ne0 : goal.returns-then-number-ne0

@@ -3,7 +3,7 @@ use Rattle.std.proofs.Common.{◌*◌, refl, sym, ap, ◌∙◌, ⊎_elim, true,
 use Rattle.values.specs.Sizes.{threads, capacity}
 use Rattle.recording_meaning.specs.Models.{sequential_model}
 use Rattle.judging.specs.Answers.{told_of}
-use Rattle.judging.specs.Unnoted.{zeros_ask_nothing}
+use Rattle.judging.proofs.Unnoted.{zeros_ask_nothing}
 use Rattle.judging.proofs.Answering.{judge_by}
 use Rattle.judging.proofs.sequential_consistency.judge.Goals as goal
 use Rattle.judging.proofs.sequential_consistency.judge.Goals.{then-is_in_shape+else-history, else-is_in_shape}

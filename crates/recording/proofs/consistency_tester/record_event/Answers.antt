@@ -2,7 +2,7 @@
 use Rattle.std.proofs.Common.{◌<◌, ◌≡◌, sym, ◌∙◌, true, arith, rules}
 use Rattle.values.specs.Sizes.{threads, capacity}
 use Rattle.stepping.specs.EventSteps.{is_taken}
-use Rattle.stepping.specs.Admitting.{event_fits, event_taken, event_refused}
+use Rattle.stepping.proofs.Admitting.{event_fits, event_taken, event_refused}
 use Rattle.shape.specs.Marking.{looks}
 use Rattle.recording.proofs.consistency_tester.record_event.Goals as goal
 

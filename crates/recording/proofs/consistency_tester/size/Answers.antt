@@ -1,7 +1,7 @@
 -- A record out of shape has no operations.
 use Rattle.std.proofs.Common.{◌-◌, sym, ◌∙◌, rules}
 use Rattle.stepping.specs.Shape.{shaped_with}
-use Rattle.stepping.specs.Admitting.{size_yes, size_no}
+use Rattle.stepping.proofs.Admitting.{size_yes, size_no}
 use Rattle.shape.specs.Marking.{looks}
 use Rattle.recording.proofs.consistency_tester.size.Goals as goal
 

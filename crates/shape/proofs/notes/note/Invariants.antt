@@ -4,7 +4,7 @@ use Rattle.std.proofs.lemmas.Bool.{lt-leb}
 use Rattle.values.specs.Sizes.{threads}
 use Rattle.shape.specs.Notes.{notes_with}
 use Rattle.shape.specs.Notes.{noted_at}
-use Rattle.shape.specs.NotesLaws.{note_more}
+use Rattle.shape.proofs.NotesLaws.{note_more}
 use Rattle.shape.proofs.notes.note.Given as goal
 
 abbrev pub invariant-loop-u : goal.invariant-loop-u

@@ -6,7 +6,7 @@ use Rattle.stepping.specs.Record.{held}
 use Rattle.stepping.specs.Shape.{notes_fit_from}
 use Rattle.shape.specs.Notes.{notes_in}
 use Rattle.stepping.specs.RecordLaws.{unmapped}
-use Rattle.shape.specs.NotesLaws.{notes_yes, notes_no, notes_end, notes_all}
+use Rattle.shape.proofs.NotesLaws.{notes_yes, notes_no, notes_end, notes_all}
 use Rattle.shape.proofs.notes.noted.Goals as goal
 
 pub returns-then-count-gt-OPERATIONS : goal.returns-then-count-gt-OPERATIONS

@@ -1,0 +1,9 @@
+pub mod Least
+pub mod Bound
+pub mod Judge
+pub mod Verdicts
+pub mod Store
+pub mod Running
+pub mod Slices
+pub mod Loop
+pub mod Going
