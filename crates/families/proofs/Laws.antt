@@ -1,5 +1,5 @@
 -- Laws that the proofs of several functions cite.
-use Rattle.std.proofs.Common.{◌≡◌, refl, sym, arith, ne_eqb, false}
+use Rattle.std.proofs.Common.{◌≡◌, refl, arith, ne_eqb, false}
 use Rattle.objects.specs.declared.register.RegisterRet.{RegisterRet}
 use Rattle.objects.specs.declared.write_once_register.WORegisterRet.{WORegisterRet}
 use Rattle.objects.specs.declared.vec.VecRet.{VecRet}

@@ -1,7 +1,7 @@
 -- The answer for the way in which a search stopped.
 use Rattle.std.proofs.Common.{ℕ, ◌-◌, ◌≡◌, refl, sym, ap, ◌∙◌, Bool, false, List, length, take, replicate, length-append, arith}
 use Rattle.std.proofs.Math.ListN.{length-replicate}
-use Rattle.theory.specs.Budget.{order, Judged}
+use Rattle.theory.specs.Budget.{Judged}
 use Rattle.history.specs.Lists.{not_both}
 use Rattle.values.specs.Value.{pick}
 use Rattle.values.specs.Sizes.{capacity}

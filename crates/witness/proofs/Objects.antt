@@ -1,6 +1,6 @@
 -- An operation placed on the bare object: it may stand there exactly if the words are those of the return that the abstract object has there,
 -- and it leaves what the abstract object leaves.
-use Rattle.std.proofs.Common.{ℕ, suc, ◌≡◌, refl, ap, ◌∙◌, Bool, true, false, not, ◌≢◌, List, length}
+use Rattle.std.proofs.Common.{ℕ, suc, ◌≡◌, refl, ap, Bool, true, false, not, ◌≢◌, List, length}
 use Rattle.history.specs.Lists.{not_both}
 use Rattle.history.specs.Recorder.{pending}
 use Rattle.history.specs.Space.{gives}

@@ -1,5 +1,4 @@
 -- The two counters, one after the other.
-use Rattle.std.proofs.Common.{rules}
 use Rattle.faults.specs.Records.{counters}
 use Rattle.faults.proofs.counters.Goals as goal
 

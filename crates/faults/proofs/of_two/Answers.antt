@@ -1,5 +1,4 @@
 -- The parts, put together.
-use Rattle.std.proofs.Common.{rules}
 use Rattle.faults.specs.Records.{record_of}
 use Rattle.faults.proofs.of_two.Goals as goal
 

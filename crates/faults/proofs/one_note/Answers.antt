@@ -1,5 +1,5 @@
 -- The note at its place, or nowhere.
-use Rattle.std.proofs.Common.{◌*◌, refl, sym, replicate, arith, rules}
+use Rattle.std.proofs.Common.{◌*◌, refl, sym, replicate, arith}
 use Rattle.std.proofs.Math.Seq.{set_out}
 use Rattle.values.specs.Sizes.{threads, capacity}
 use Rattle.faults.specs.Records.{one_note}

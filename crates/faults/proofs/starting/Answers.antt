@@ -1,5 +1,4 @@
 -- The parts of the record, each made by its function.
-use Rattle.std.proofs.Common.{rules}
 use Rattle.faults.specs.Records.{starting}
 use Rattle.faults.proofs.starting.Goals as goal
 

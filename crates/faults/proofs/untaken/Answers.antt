@@ -1,5 +1,4 @@
 -- What fills a fresh record.
-use Rattle.std.proofs.Common.{rules}
 use Rattle.faults.proofs.untaken.Goals as goal
 
 pub returns : goal.returns

@@ -1,4 +1,4 @@
-use Rattle.std.proofs.Common.{ℕ, ◌≡◌, sym, subst, arith, rules}
+use Rattle.std.proofs.Common.{ℕ, ◌≡◌, sym, subst, arith}
 use Rattle.host.specs.Call.{report_of, model_of}
 use Rattle.host.proofs.CallMeant.{calls}
 use Rattle.host.proofs.Calling.{unwritten, written}

@@ -1,5 +1,4 @@
 -- The group lies above what is there, so that joining them by bits is their sum.
-use Rattle.std.proofs.Common.{rules}
 use Rattle.numbers.proofs.Groups.{joined}
 use Rattle.numbers.proofs.join.Goals as goal
 

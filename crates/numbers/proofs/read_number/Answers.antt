@@ -1,5 +1,5 @@
 -- What is left to read from byte i on, above what is summed up so far, says the same number as the whole.
-use Rattle.std.proofs.Common.{◌≤◌, ◌<◌, ◌-◌, ◌+◌, ◌*◌, ◌%◌, ◌^◌, ◌≡◌, refl, sym, ap, ◌∙◌, false, [], arith, length, drop, drop_of_length-le, rules}
+use Rattle.std.proofs.Common.{◌+◌, ◌*◌, ◌%◌, ◌^◌, ◌≡◌, refl, sym, ap, ◌∙◌, false, [], arith, drop, drop_of_length-le, rules}
 use Rattle.std.proofs.Math.ListN.{get_or}
 use Rattle.numbers.specs.Number.{too_big, number_from, number}
 use Rattle.numbers.specs.Number.{as_number}

@@ -1,4 +1,3 @@
-use Rattle.std.proofs.Common.{rules}
 use Rattle.semantics.specs.Calls.{answer_by}
 use Rattle.semantics.proofs.answer_by.Goals as goal
 

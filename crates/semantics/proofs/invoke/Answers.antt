@@ -1,4 +1,4 @@
-use Rattle.std.proofs.Common.{sym, ◌∙◌, rules}
+use Rattle.std.proofs.Common.{sym, ◌∙◌}
 use Rattle.semantics.specs.Calls.{invoke_of}
 use Rattle.semantics.proofs.invoke.Goals as goal
 

@@ -1,4 +1,4 @@
-use Rattle.std.proofs.Common.{sym, ◌∙◌, rules}
+use Rattle.std.proofs.Common.{sym, ◌∙◌}
 use Rattle.semantics.specs.Calls.{begun_of}
 use Rattle.semantics.proofs.is_valid_history.Goals as goal
 

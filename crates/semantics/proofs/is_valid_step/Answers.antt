@@ -1,5 +1,5 @@
 -- Refused, right, wrong but done all the same, or wrong: by the definition's cases.
-use Rattle.std.proofs.Common.{sym, ◌∙◌, rules}
+use Rattle.std.proofs.Common.{sym, ◌∙◌}
 use Rattle.semantics.specs.Calls.{step_of}
 use Rattle.semantics.proofs.is_valid_step.Goals as goal
 

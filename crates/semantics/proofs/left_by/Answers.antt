@@ -1,5 +1,4 @@
 -- The two words after the act say what the object is, and the lent items what it holds.
-use Rattle.std.proofs.Common.{rules}
 use Rattle.semantics.specs.Calls.{left_by}
 use Rattle.families.specs.Placing.{acted_of}
 use Rattle.semantics.proofs.left_by.Goals as goal

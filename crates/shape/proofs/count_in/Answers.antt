@@ -1,5 +1,5 @@
 -- An operation that fits is marked in flight or counted among those still to come.
-use Rattle.std.proofs.Common.{◌-◌, sym, ◌∙◌, rules, eq-eqb, ne_eqb}
+use Rattle.std.proofs.Common.{sym, ◌∙◌, eq-eqb, ne_eqb}
 use Rattle.shape.specs.Pass.{goes_on, counts_in, left_after, flying_after}
 use Rattle.stepping.specs.RecordLaws.{never}
 use Rattle.shape.proofs.Looking.{fits_known}

@@ -1,5 +1,5 @@
 -- No thread from the first on has anything left.
-use Rattle.std.proofs.Common.{ℕ, ◌≤◌, ◌-◌, Bool, true, ◌≡◌, refl, sym, rules, eq-eqb, ne_eqb}
+use Rattle.std.proofs.Common.{ℕ, Bool, refl, sym, rules, eq-eqb, ne_eqb}
 use Rattle.std.specs.Prelude.{eqb}
 use Rattle.std.proofs.Math.ListN.{get_or}
 use Rattle.values.specs.Sizes.{threads}

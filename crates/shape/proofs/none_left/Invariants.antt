@@ -1,11 +1,9 @@
 -- No thread from the first on has anything left.
-use Rattle.std.proofs.Common.{ℕ, ◌≤◌, ◌-◌, Bool, true, ◌≡◌, refl, sym, rules, eq-eqb, ne_eqb}
+use Rattle.std.proofs.Common.{◌≤◌, ◌-◌, true, ◌≡◌}
 use Rattle.std.specs.Prelude.{eqb}
 use Rattle.std.proofs.Math.ListN.{get_or}
 use Rattle.values.specs.Sizes.{threads}
-use Rattle.shape.specs.Pass.{none_left}
 use Rattle.stepping.specs.Shape.{all_below}
-use Rattle.stepping.specs.RecordLaws.{below_no, below_more, below_end}
 use Rattle.shape.proofs.none_left.Given as goal
 
 abbrev pub invariant-loop-t : goal.invariant-loop-t

@@ -1,5 +1,5 @@
 -- A thread that there is, and an operation and a return of the object.
-use Rattle.std.proofs.Common.{le-ltb, lt-ltb, sym, ◌∙◌, rules}
+use Rattle.std.proofs.Common.{le-ltb, lt-ltb, sym, ◌∙◌}
 use Rattle.stepping.specs.Shape.{operation_fits}
 use Rattle.shape.proofs.operation_fits.Goals as goal
 

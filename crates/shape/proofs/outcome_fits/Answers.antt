@@ -1,5 +1,4 @@
 -- One in flight fits, and one that has returned if its return is the object's.
-use Rattle.std.proofs.Common.{rules}
 use Rattle.stepping.specs.Shape.{outcome_fits}
 use Rattle.shape.proofs.outcome_fits.Goals as goal
 

@@ -1,5 +1,5 @@
 -- Few enough operations, and an object that can be started with.
-use Rattle.std.proofs.Common.{le-leb, rules}
+use Rattle.std.proofs.Common.{le-leb}
 use Rattle.std.proofs.lemmas.Bool.{lt-leb}
 use Rattle.shape.specs.Pass.{sizes_fit}
 use Rattle.shape.proofs.sizes_fit.Goals as goal

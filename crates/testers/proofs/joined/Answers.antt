@@ -1,5 +1,4 @@
 -- `testers::joined` hands back both numbers, both sizes and both testers.
-use Rattle.std.proofs.Common.{rules}
 use Rattle.testers.proofs.joined.Goals as goal
 
 pub returns : goal.returns

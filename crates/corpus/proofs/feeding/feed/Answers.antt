@@ -1,11 +1,8 @@
 -- Each turn records the event that the file has next as the tester's own call would.
-use Rattle.std.proofs.Common.{◌-◌, ◌<◌, ap, arith, length, drop, rules}
+use Rattle.std.proofs.Common.{◌<◌, ap, arith}
 use Rattle.values.specs.Sizes.{threads, capacity}
-use Rattle.recording.specs.Testers.{linearizability}
-use Rattle.recording_meaning.specs.Models.{linearizability_model}
-use Rattle.corpus.specs.Load.{load_from}
 use Rattle.corpus.specs.LoadAnswers.{as_linearizability}
-use Rattle.corpus.proofs.Loop.{Feeding, feeding_new, feeding_ended, feeding_stopped, taken_further, taken_fits, feeding_taken}
+use Rattle.corpus.proofs.Loop.{feeding_new, feeding_ended, feeding_stopped, taken_further, taken_fits, feeding_taken}
 use Rattle.corpus.proofs.feeding.feed.Goals as goal
 
 pub loop-at-init : goal.loop-at-init

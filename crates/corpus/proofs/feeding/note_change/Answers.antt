@@ -1,5 +1,5 @@
 -- Only an invocation leaves a mark, and only it has notes.
-use Rattle.std.proofs.Common.{◌∙◌, rules, eq-eqb, ne_eqb}
+use Rattle.std.proofs.Common.{◌∙◌, eq-eqb, ne_eqb}
 use Rattle.corpus.specs.LoaderTurns.{noted_by}
 use Rattle.corpus.proofs.feeding.note_change.Goals as goal
 

@@ -1,5 +1,5 @@
 -- The tester is made of the header's object, and fed with the events behind it.
-use Rattle.std.proofs.Common.{refl, ap, ◌∙◌, rules}
+use Rattle.std.proofs.Common.{refl, ap, ◌∙◌}
 use Rattle.recording.specs.declared.linearizability.New.{New}
 use Rattle.recording_meaning.specs.Models.{linearizability_model}
 use Rattle.format.specs.Format.{header}

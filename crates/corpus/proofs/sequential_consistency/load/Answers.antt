@@ -1,5 +1,5 @@
 -- The history that the other loader holds, without its notes.
-use Rattle.std.proofs.Common.{sym, ap, ◌∙◌, rules}
+use Rattle.std.proofs.Common.{sym, ap, ◌∙◌}
 use Rattle.recording.specs.Testers.{sequential}
 use Rattle.corpus.specs.declared.linearizability.Loaded.{Loaded}
 use Rattle.corpus.specs.LoadAnswers.{as_sequential}

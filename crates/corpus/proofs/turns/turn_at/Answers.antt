@@ -1,8 +1,6 @@
 -- The event is read whole, and then looked at as the tester's own call would look at it.
-use Rattle.std.proofs.Common.{ℕ, ◌≡◌, ap, ◌∙◌, List, drop, rules}
-use Rattle.history.specs.Events.{Event}
-use Rattle.families.specs.Families.{families}
-use Rattle.numbers.specs.Reader.{Read, got}
+use Rattle.std.proofs.Common.{ℕ, ◌≡◌, ap, ◌∙◌, List, drop}
+use Rattle.numbers.specs.Reader.{got}
 use Rattle.format.specs.Format.{event}
 use Rattle.format.specs.ReadAnswers.{heard, as_event}
 use Rattle.format.specs.Fields.{tail}

@@ -1,5 +1,4 @@
 -- Each family has its own default.
-use Rattle.std.proofs.Common.{rules}
 use Rattle.families.specs.Objects.{stand_in}
 use Rattle.families.proofs.Object.stand_in.Goals as goal
 

@@ -1,5 +1,4 @@
 -- The object tells the family, whose own table says the form.
-use Rattle.std.proofs.Common.{rules}
 use Rattle.families.specs.Codes.{op_form}
 use Rattle.families.specs.Family.{family_of}
 use Rattle.families.proofs.codes.op_form.Goals as goal

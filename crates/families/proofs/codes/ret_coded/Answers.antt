@@ -1,5 +1,4 @@
 -- The return tells its family, whose own table says the numbers.
-use Rattle.std.proofs.Common.{rules}
 use Rattle.families.specs.Codes.{ret_coded}
 use Rattle.families.proofs.codes.ret_coded.Goals as goal
 

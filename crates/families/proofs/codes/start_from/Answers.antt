@@ -1,5 +1,5 @@
 -- The number tells the family, and the rest what it starts with.
-use Rattle.std.proofs.Common.{eq-eqb, ne_eqb, rules}
+use Rattle.std.proofs.Common.{eq-eqb, ne_eqb}
 use Rattle.families.specs.Codes.{start_from}
 use Rattle.values.specs.Bits.{back}
 use Rattle.families.proofs.codes.start_from.Goals as goal

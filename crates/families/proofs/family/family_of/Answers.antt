@@ -1,5 +1,4 @@
 -- Each kind has the number of its family.
-use Rattle.std.proofs.Common.{rules}
 use Rattle.families.specs.Family.{family_number, family_of}
 use Rattle.families.proofs.family.family_of.Goals as goal
 

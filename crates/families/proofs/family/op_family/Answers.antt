@@ -1,5 +1,4 @@
 -- Each operation has the number of its family.
-use Rattle.std.proofs.Common.{rules}
 use Rattle.families.specs.Family.{family_number, op_family}
 use Rattle.families.proofs.family.op_family.Goals as goal
 

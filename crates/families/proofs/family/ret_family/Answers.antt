@@ -1,5 +1,4 @@
 -- Each return has the number of its family.
-use Rattle.std.proofs.Common.{rules}
 use Rattle.families.specs.Family.{family_number, ret_family}
 use Rattle.families.proofs.family.ret_family.Goals as goal
 

@@ -1,5 +1,4 @@
 -- The operation tells the family; only a stack changes an item.
-use Rattle.std.proofs.Common.{rules}
 use Rattle.families.specs.Placing.{acted_of, leaves_of, held_after, changes}
 use Rattle.objects.specs.Stack.{item_at, stack_acted}
 use Rattle.values.specs.Bits.{back}

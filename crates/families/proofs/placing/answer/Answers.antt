@@ -1,5 +1,4 @@
 -- The operation tells the family, which answers from what it holds.
-use Rattle.std.proofs.Common.{rules}
 use Rattle.families.specs.Placing.{answer_of}
 use Rattle.values.specs.Bits.{back}
 use Rattle.families.proofs.placing.answer.Goals as goal

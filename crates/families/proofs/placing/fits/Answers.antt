@@ -1,5 +1,4 @@
 -- One in flight may stand anywhere, and one that has returned where its return is right.
-use Rattle.std.proofs.Common.{rules}
 use Rattle.families.specs.Placing.{fits_of}
 use Rattle.families.proofs.placing.fits.Goals as goal
 

@@ -1,5 +1,4 @@
 -- One that has returned keeps its return, and one in flight gets the answer.
-use Rattle.std.proofs.Common.{rules}
 use Rattle.families.specs.Placing.{given_of}
 use Rattle.families.proofs.placing.given.Goals as goal
 

@@ -1,5 +1,4 @@
 -- Each family has its part of the two words.
-use Rattle.std.proofs.Common.{rules}
 use Rattle.families.specs.Placing.{held_of}
 use Rattle.values.specs.Bits.{back}
 use Rattle.families.proofs.placing.held_of.Goals as goal

@@ -1,5 +1,4 @@
 -- Height 0 says nothing and height 1 a value.
-use Rattle.std.proofs.Common.{rules}
 use Rattle.families.specs.Placing.{held_once}
 use Rattle.values.specs.Bits.{back}
 use Rattle.families.proofs.placing.held_once.Goals as goal

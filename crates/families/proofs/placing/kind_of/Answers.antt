@@ -1,5 +1,4 @@
 -- The family stays, and the two words say the rest.
-use Rattle.std.proofs.Common.{rules}
 use Rattle.families.specs.Placing.{kind_of}
 use Rattle.values.specs.Bits.{back}
 use Rattle.families.proofs.placing.kind_of.Goals as goal

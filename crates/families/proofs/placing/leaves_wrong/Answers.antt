@@ -1,5 +1,5 @@
 -- It takes both an operation and a return that take.
-use Rattle.std.proofs.Common.{sym, ◌∙◌, rules}
+use Rattle.std.proofs.Common.{sym, ◌∙◌}
 use Rattle.families.specs.Placing.{leaves_wrong}
 use Rattle.families.proofs.placing.leaves_wrong.Goals as goal
 

@@ -1,6 +1,4 @@
 -- The return is looked at by the operation's family, and is wrong in any other.
-use Rattle.std.proofs.Common.{[], ◌∷◌, rules}
-use types.Run.{miss}
 use Rattle.families.specs.Family.{family_number, ret_family}
 use Rattle.families.specs.Codes.{ret_coded}
 use Rattle.families.specs.Families.{same_ret}

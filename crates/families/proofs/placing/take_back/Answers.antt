@@ -1,5 +1,5 @@
 -- A place within the room gets back what it had; FULL is no place.
-use Rattle.std.proofs.Common.{rules, le-ltb, lt-ltb}
+use Rattle.std.proofs.Common.{le-ltb, lt-ltb}
 use Rattle.families.specs.Placing.{back_of}
 use Rattle.values.specs.Bits.{back}
 use Rattle.families.proofs.placing.take_back.Goals as goal

@@ -1,5 +1,4 @@
 -- Only a return of a Pop takes.
-use Rattle.std.proofs.Common.{rules}
 use Rattle.families.specs.Placing.{taken}
 use Rattle.families.proofs.placing.taken.Goals as goal
 

@@ -1,5 +1,4 @@
 -- Only a Pop takes.
-use Rattle.std.proofs.Common.{rules}
 use Rattle.families.specs.Placing.{takes}
 use Rattle.families.proofs.placing.takes.Goals as goal
 

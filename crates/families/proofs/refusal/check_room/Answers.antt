@@ -1,5 +1,4 @@
 -- Only a stack can want for room.
-use Rattle.std.proofs.Common.{rules}
 use Rattle.families.specs.Refusals.{room_check}
 use Rattle.families.proofs.refusal.check_room.Goals as goal
 

@@ -1,5 +1,4 @@
 -- Only a stack can be out of shape.
-use Rattle.std.proofs.Common.{rules}
 use Rattle.families.specs.Refusals.{shape_check}
 use Rattle.families.proofs.refusal.check_shape.Goals as goal
 

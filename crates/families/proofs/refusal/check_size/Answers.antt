@@ -1,5 +1,4 @@
 -- Only a stack can be too large to start with.
-use Rattle.std.proofs.Common.{rules}
 use Rattle.families.specs.Refusals.{size_check}
 use Rattle.families.proofs.refusal.check_size.Goals as goal
 

@@ -1,5 +1,4 @@
 -- The shape is looked at before the size.
-use Rattle.std.proofs.Common.{rules}
 use Rattle.families.specs.Refusals.{start_check}
 use Rattle.families.proofs.refusal.check_start.Goals as goal
 

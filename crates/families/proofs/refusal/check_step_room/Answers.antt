@@ -1,5 +1,5 @@
 -- Room is asked for only where the return says that it was taken.
-use Rattle.std.proofs.Common.{sym, ◌∙◌, rules}
+use Rattle.std.proofs.Common.{sym, ◌∙◌}
 use Rattle.families.specs.Refusals.{step_room}
 use Rattle.families.proofs.refusal.check_step_room.Goals as goal
 

@@ -1,5 +1,4 @@
 -- Only a stack can be full, at its full depth.
-use Rattle.std.proofs.Common.{rules}
 use Rattle.families.specs.Refusals.{is_full}
 use Rattle.families.proofs.refusal.is_full.Goals as goal
 

@@ -1,5 +1,5 @@
 -- The numbers of the two families are compared, and nothing else.
-use Rattle.std.proofs.Common.{eq-eqb, ne_eqb, rules}
+use Rattle.std.proofs.Common.{eq-eqb, ne_eqb}
 use Rattle.families.specs.Refusals.{op_belongs, family_check}
 use Rattle.families.proofs.refusal.op_belongs.Goals as goal
 

@@ -1,5 +1,4 @@
 -- Only a PushOk says that room was taken.
-use Rattle.std.proofs.Common.{rules}
 use Rattle.families.specs.Refusals.{took_room}
 use Rattle.families.proofs.refusal.took_room.Goals as goal
 

@@ -1,5 +1,5 @@
 -- The first number says by its last bit whether an operation or a return follows, and by the rest of which thread.
-use Rattle.std.proofs.Common.{sym, ap, rules, eq-eqb, ne_eqb}
+use Rattle.std.proofs.Common.{sym, ap, eq-eqb, ne_eqb}
 use Rattle.numbers.specs.Reader.{from}
 use Rattle.numbers.specs.Number.{number}
 use Rattle.format.specs.Format.{operation, answer, event_of, event}

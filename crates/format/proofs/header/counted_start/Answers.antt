@@ -1,6 +1,6 @@
 -- The count is read and judged, and then so many values are read.
-use Rattle.std.proofs.Common.{ℕ, ◌≡◌, sym, ap, ◌∙◌, List, rules, lt-ltb, le-ltb}
-use Rattle.numbers.specs.Reader.{got, from}
+use Rattle.std.proofs.Common.{sym, ap, ◌∙◌, rules, lt-ltb, le-ltb}
+use Rattle.numbers.specs.Reader.{from}
 use Rattle.numbers.specs.Number.{number}
 use Rattle.format.specs.Format.{counted, counted_start}
 use Rattle.format.specs.ReadAnswers.{as_header}

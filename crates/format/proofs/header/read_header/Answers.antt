@@ -1,5 +1,5 @@
 -- The length is judged before the opening, and both before what follows.
-use Rattle.std.proofs.Common.{sym, ◌∙◌, rules, lt-ltb, le-ltb}
+use Rattle.std.proofs.Common.{sym, ◌∙◌, lt-ltb, le-ltb}
 use Rattle.format.specs.Format.{header}
 use Rattle.format.specs.Lengths.{opened_long}
 use Rattle.format.proofs.header.read_header.Goals as goal

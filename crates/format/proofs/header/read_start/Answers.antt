@@ -1,7 +1,7 @@
 -- The number is read, and what follows is read by the form that the table has for it.
-use Rattle.std.proofs.Common.{ℕ, ◌≡◌, sym, ap, ◌∙◌, List, rules}
+use Rattle.std.proofs.Common.{sym, ap, ◌∙◌}
 use Rattle.values.specs.declared.coded.StartForm.{StartForm}
-use Rattle.numbers.specs.Reader.{got, from}
+use Rattle.numbers.specs.Reader.{from}
 use Rattle.numbers.specs.Number.{number}
 use Rattle.format.specs.Format.{start_by, object, start}
 use Rattle.format.specs.ReadAnswers.{as_header}

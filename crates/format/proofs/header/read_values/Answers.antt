@@ -1,5 +1,5 @@
 -- What is left to read from where the loop stands says the same values as the whole: each turn reads one more into its place.
-use Rattle.std.proofs.Common.{◌≤◌, ◌-◌, ◌≡◌, refl, sym, ap, ◌∙◌, arith, ℤ, length, rules}
+use Rattle.std.proofs.Common.{◌-◌, ◌≡◌, refl, sym, ap, ◌∙◌, arith, ℤ}
 use Rattle.values.specs.Coded.{coded}
 use Rattle.families.specs.Codes.{start_from}
 use Rattle.families.specs.Objects.{zeros}

@@ -1,5 +1,5 @@
 -- A refused header has the default register.
-use Rattle.std.proofs.Common.{refl, rules}
+use Rattle.std.proofs.Common.{refl}
 use Rattle.format.proofs.header.refused_for.Goals as goal
 
 pub returns : goal.returns

@@ -1,5 +1,5 @@
 -- What has the form is read, and the object is what the table starts with those numbers.
-use Rattle.std.proofs.Common.{sym, ap, ◌∙◌, rules}
+use Rattle.std.proofs.Common.{sym, ap, ◌∙◌}
 use Rattle.families.specs.Codes.{start_from}
 use Rattle.families.specs.Objects.{zeros}
 use Rattle.numbers.specs.Reader.{from}

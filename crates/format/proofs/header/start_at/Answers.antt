@@ -1,5 +1,5 @@
 -- Each form of a start has its reader.
-use Rattle.std.proofs.Common.{sym, ap, ◌∙◌, rules}
+use Rattle.std.proofs.Common.{sym, ap, ◌∙◌}
 use Rattle.format.specs.Format.{start_by}
 use Rattle.format.specs.ReadAnswers.{as_header}
 use Rattle.format.specs.Fields.{from_refuse}

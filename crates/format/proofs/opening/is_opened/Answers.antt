@@ -1,5 +1,5 @@
 -- A file under four bytes has no opening; of any other the first four are compared.
-use Rattle.std.proofs.Common.{ℕ, ◌≡◌, ap, false, arith, length, length-take, rules}
+use Rattle.std.proofs.Common.{ℕ, ◌≡◌, ap, false, arith, length, length-take}
 use Rattle.format.specs.SameBytes.{said_same}
 use Rattle.format.proofs.opening.is_opened.Goals as goal
 

@@ -1,6 +1,6 @@
 -- The flag is read, and by it the answer is none, that of the number behind it, or a refusal.
-use Rattle.std.proofs.Common.{ℕ, ◌≡◌, sym, ap, List, rules, eq-eqb, ne_eqb}
-use Rattle.numbers.specs.Reader.{got, from}
+use Rattle.std.proofs.Common.{sym, ap, eq-eqb, ne_eqb}
+use Rattle.numbers.specs.Reader.{from}
 use Rattle.numbers.specs.Number.{number}
 use Rattle.format.specs.Format.{flagged, maybe}
 use Rattle.format.specs.ReadAnswers.{as_payload}

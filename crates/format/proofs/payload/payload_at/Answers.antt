@@ -1,5 +1,5 @@
 -- Each form has its reader.
-use Rattle.std.proofs.Common.{sym, ap, rules}
+use Rattle.std.proofs.Common.{sym, ap}
 use Rattle.format.specs.Format.{payload}
 use Rattle.format.specs.ReadAnswers.{as_payload}
 use Rattle.format.specs.Fields.{from_give, from_refuse}

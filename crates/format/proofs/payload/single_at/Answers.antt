@@ -1,5 +1,5 @@
 -- What is read is one number, and nothing else is made of it than the word.
-use Rattle.std.proofs.Common.{sym, ap, rules}
+use Rattle.std.proofs.Common.{sym, ap}
 use Rattle.numbers.specs.Reader.{from}
 use Rattle.numbers.specs.Number.{number}
 use Rattle.format.specs.Format.{single}

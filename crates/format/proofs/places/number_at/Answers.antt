@@ -1,5 +1,5 @@
 -- A number at a place is the one that opens the bytes from there on, its end counted from the first byte.
-use Rattle.std.proofs.Common.{ℕ, sym, ap, ◌∙◌, List, arith, drop, length-drop, rules}
+use Rattle.std.proofs.Common.{ℕ, sym, ap, ◌∙◌, List, arith, drop, length-drop}
 use Rattle.numbers.specs.Number.{number}
 use Rattle.numbers.specs.Number.{as_number}
 use Rattle.format.specs.Taking.{number_field, first_in}

@@ -1,9 +1,8 @@
 -- The number chooses the form in the family, what has that form is read, and the table says what it means.
-use Rattle.std.proofs.Common.{ℕ, ◌≡◌, sym, ap, ◌∙◌, List, rules}
-use Rattle.families.specs.Family.{Family, family_of}
+use Rattle.std.proofs.Common.{◌≡◌, sym, ap, ◌∙◌}
+use Rattle.families.specs.Family.{family_of}
 use Rattle.families.specs.Codes.{ret_form, ret_from}
-use Rattle.values.specs.declared.coded.Form.{Form}
-use Rattle.numbers.specs.Reader.{got, from}
+use Rattle.numbers.specs.Reader.{from}
 use Rattle.numbers.specs.Number.{number}
 use Rattle.format.specs.Format.{payload, answer_of, answer}
 use Rattle.format.specs.ReadAnswers.{as_payload, as_ret}

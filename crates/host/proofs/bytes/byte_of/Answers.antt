@@ -1,4 +1,4 @@
-use Rattle.std.proofs.Common.{◌*◌, ◌/◌, ◌^◌, arith, rules}
+use Rattle.std.proofs.Common.{◌*◌, ◌/◌, ◌^◌, arith}
 use Rattle.std.specs.Int.Bits.{and_mask, mask_lt}
 use Rattle.host.proofs.bytes.byte_of.Goals as goal
 

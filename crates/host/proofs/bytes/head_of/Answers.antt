@@ -1,4 +1,3 @@
-use Rattle.std.proofs.Common.{rules}
 use Rattle.host.proofs.Laying.{head_shifted}
 use Rattle.host.proofs.bytes.head_of.Goals as goal
 

@@ -1,5 +1,5 @@
-use Rattle.std.proofs.Common.{◌≤◌, ◌-◌, ◌≡◌, refl, add-one, arith, length, length-set, rules}
-use Rattle.std.proofs.Math.Seq.{paste, paste-zero, paste-suc}
+use Rattle.std.proofs.Common.{◌≡◌, refl, add-one, arith, length, length-set, rules}
+use Rattle.std.proofs.Math.Seq.{paste-zero, paste-suc}
 use Rattle.host.proofs.bytes.put_in.Goals as goal
 
 pub loop-i-init : goal.loop-i-init

@@ -1,5 +1,5 @@
-use Rattle.std.proofs.Common.{◌≤◌, ◌-◌, ◌≡◌, refl, add-one, arith, length, length-set, rules}
-use Rattle.std.proofs.Math.Seq.{paste, paste-zero, paste-suc}
+use Rattle.std.proofs.Common.{◌≤◌, ◌-◌, ◌≡◌, length}
+use Rattle.std.proofs.Math.Seq.{paste}
 use Rattle.host.proofs.bytes.put_in.Given as goal
 
 abbrev pub invariant-loop-i : goal.invariant-loop-i

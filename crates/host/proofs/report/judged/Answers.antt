@@ -1,7 +1,6 @@
 -- What the judge answers is told field by field.
 use Rattle.std.proofs.Common.{arith, rules, ◌≡◌, length}
 use Rattle.values.specs.Sizes.{capacity}
-use Rattle.stepping.specs.RecordLaws.{unmapped}
 use Rattle.host.specs.Call.{judged_report}
 use Rattle.host.proofs.report.judged.Goals as goal
 

@@ -1,4 +1,3 @@
-use Rattle.std.proofs.Common.{rules}
 use Rattle.host.specs.Call.{refused_report}
 use Rattle.host.proofs.report.refused.Goals as goal
 

@@ -1,5 +1,5 @@
 -- A file that loads is judged, and one that does not is told by its number.
-use Rattle.std.proofs.Common.{sym, ap, ◌∙◌, rules}
+use Rattle.std.proofs.Common.{sym, ap, ◌∙◌}
 use Rattle.recording_meaning.specs.Models.{linearizability_model}
 use Rattle.host.specs.Call.{judged_report}
 use Rattle.host.specs.Ordered.{ordered, length_within}

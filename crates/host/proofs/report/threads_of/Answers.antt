@@ -1,7 +1,6 @@
 -- The threads of the places taken come first, and nobody behind them.
-use Rattle.std.proofs.Common.{◌-◌, refl, arith, rules}
-use Rattle.values.specs.Sizes.{capacity}
-use Rattle.host.proofs.Threading.{Filled, filled_more, filled_end}
+use Rattle.std.proofs.Common.{refl, arith, rules}
+use Rattle.host.proofs.Threading.{filled_more, filled_end}
 use Rattle.host.proofs.report.threads_of.Goals as goal
 
 pub loop-i-init : goal.loop-i-init

@@ -1,7 +1,7 @@
 -- The threads of the places taken come first, and nobody behind them.
-use Rattle.std.proofs.Common.{◌-◌, refl, arith, rules}
+use Rattle.std.proofs.Common.{◌-◌}
 use Rattle.values.specs.Sizes.{capacity}
-use Rattle.host.proofs.Threading.{Filled, filled_more, filled_end}
+use Rattle.host.proofs.Threading.{Filled}
 use Rattle.host.proofs.report.threads_of.Given as goal
 
 abbrev pub invariant-loop-i : goal.invariant-loop-i

@@ -1,4 +1,3 @@
-use Rattle.std.proofs.Common.{rules}
 use Rattle.judging.specs.Answers.{is_consistent}
 use Rattle.judging.proofs.answer.is_consistent.Goals as goal
 

@@ -1,5 +1,4 @@
 -- Nobody has the return that stands where none is taken.
-use Rattle.std.proofs.Common.{rules}
 use Rattle.judging.proofs.answer.nobody.Goals as goal
 
 pub returns : goal.returns

@@ -1,4 +1,3 @@
-use Rattle.std.proofs.Common.{rules}
 use Rattle.judging.specs.Answers.{number_of}
 use Rattle.judging.proofs.answer.number.Goals as goal
 

@@ -1,4 +1,3 @@
-use Rattle.std.proofs.Common.{rules}
 use Rattle.judging.specs.Answers.{without_order}
 use Rattle.judging.proofs.answer.without_order.Goals as goal
 

@@ -1,8 +1,7 @@
 -- The sum of the counts so far, and of those to come, is the sum of all.
-use Rattle.std.proofs.Common.{◌+◌, ◌*◌, ◌≤◌, ◌-◌, ◌≡◌, length, drop, w8, Fits, arith, rules}
+use Rattle.std.proofs.Common.{◌≡◌, length, w8, Fits, arith, rules}
 use Rattle.std.proofs.Math.ListN.{get_or}
 use Rattle.values.specs.Sizes.{threads}
-use Rattle.judging.specs.Places.{sum_of}
 use Rattle.judging.proofs.Indexing.{sum_more, sum_end}
 use Rattle.judging.proofs.index.completed.Goals as goal
 

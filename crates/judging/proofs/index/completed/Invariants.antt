@@ -1,9 +1,7 @@
 -- The sum of the counts so far, and of those to come, is the sum of all.
-use Rattle.std.proofs.Common.{◌+◌, ◌*◌, ◌≤◌, ◌-◌, ◌≡◌, length, drop, w8, Fits, arith, rules}
-use Rattle.std.proofs.Math.ListN.{get_or}
+use Rattle.std.proofs.Common.{◌+◌, ◌*◌, ◌≤◌, ◌-◌, ◌≡◌, drop}
 use Rattle.values.specs.Sizes.{threads}
 use Rattle.judging.specs.Places.{sum_of}
-use Rattle.judging.proofs.Indexing.{sum_more, sum_end}
 use Rattle.judging.proofs.index.completed.Given as goal
 
 abbrev pub invariant-loop-t : goal.invariant-loop-t

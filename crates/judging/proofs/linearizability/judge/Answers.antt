@@ -1,5 +1,5 @@
 -- A record in shape and valid is searched, and any other is Invalid.
-use Rattle.std.proofs.Common.{refl, sym, ◌∙◌, ⊎_elim, true, false, rules}
+use Rattle.std.proofs.Common.{refl, sym, ◌∙◌, true, false}
 use Rattle.stepping.specs.Shape.{shape_of}
 use Rattle.recording.specs.Testers.{notes_shaped}
 use Rattle.recording_meaning.specs.Parts.{pick_right}

@@ -1,7 +1,6 @@
 -- The notes are met if each thread's is.
-use Rattle.std.proofs.Common.{ℕ, ◌≤◌, ◌<◌, ◌-◌, sym, arith, rules, below_more}
+use Rattle.std.proofs.Common.{◌≤◌, sym, arith, rules, below_more}
 use Rattle.std.proofs.Math.ListN.{get_or}
-use Rattle.values.specs.Sizes.{threads}
 use Rattle.stepping.specs.Shape.{note_at}
 use Rattle.judging.proofs.Noting.{notes_met, note_unmet}
 use Rattle.judging.proofs.search.allowed.Goals as goal

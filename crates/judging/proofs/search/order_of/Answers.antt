@@ -1,9 +1,8 @@
 -- Placing the path once more from the start gives each place its return.
-use Rattle.std.proofs.Common.{◌-◌, ◌≡◌, length, arith, rules}
+use Rattle.std.proofs.Common.{◌≡◌, length, arith, rules}
 use Rattle.values.specs.Sizes.{capacity}
 use Rattle.recording_meaning.specs.Parts.{parts_of}
-use Rattle.judging.specs.Playing.{situation}
-use Rattle.judging.proofs.Replaying.{Replaying, replay_start, own_low, p_few, slot_fits, at_low, replay_more, replay_end}
+use Rattle.judging.proofs.Replaying.{replay_start, own_low, p_few, slot_fits, at_low, replay_more, replay_end}
 use Rattle.judging.proofs.search.order_of.Goals as goal
 
 pub loop-d-init : goal.loop-d-init

@@ -1,5 +1,5 @@
 -- No thread that is passed over has anything left to place.
-use Rattle.std.proofs.Common.{ℕ, ◌≤◌, ◌<◌, ◌-◌, arith, rules, below_more}
+use Rattle.std.proofs.Common.{ℕ, ◌≤◌, ◌<◌, ◌-◌}
 use Rattle.std.proofs.Math.ListN.{get_or}
 use Rattle.values.specs.Sizes.{threads}
 use Rattle.judging.proofs.search.ready.Given as goal

@@ -1,10 +1,7 @@
 -- Each turn goes where the machine of the walk goes: placed, turned away, or back over a level.
-use Rattle.std.proofs.Common.{rules, ◌+◌, ◌*◌, ◌-◌, ◌≡◌, refl, sym, ◌∙◌, length, arith}
-use Rattle.std.proofs.lemmas.List.{length-map}
+use Rattle.std.proofs.Common.{rules, ◌≡◌, refl, sym, ◌∙◌, length, arith}
 use Rattle.values.specs.Sizes.{room}
-use Rattle.recording_meaning.specs.Reading.{Sized, notes_of}
-use Rattle.judging.specs.Playing.{situation}
-use Rattle.judging.specs.SearchRunning.{Running}
+use Rattle.recording_meaning.specs.Reading.{Sized}
 use Rattle.judging.proofs.SearchRunning.{
   running_start,
   fits,

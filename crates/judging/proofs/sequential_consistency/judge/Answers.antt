@@ -1,5 +1,5 @@
 -- A record in shape and valid is searched with notes that ask for nothing, and any other is Invalid.
-use Rattle.std.proofs.Common.{◌*◌, refl, sym, ap, ◌∙◌, ⊎_elim, true, false, rules}
+use Rattle.std.proofs.Common.{◌*◌, refl, sym, ap, ◌∙◌, true, false}
 use Rattle.values.specs.Sizes.{threads, capacity}
 use Rattle.recording_meaning.specs.Models.{sequential_model}
 use Rattle.judging.specs.Answers.{told_of}

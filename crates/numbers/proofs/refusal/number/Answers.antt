@@ -1,5 +1,4 @@
 -- Each refusal has its line in the table of numbers.
-use Rattle.std.proofs.Common.{rules}
 use Rattle.numbers.specs.FileRefusals.{number_of}
 use Rattle.numbers.proofs.refusal.number.Goals as goal
 

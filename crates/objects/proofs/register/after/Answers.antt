@@ -1,5 +1,4 @@
 -- A Write leaves its value, a Read what was there.
-use Rattle.std.proofs.Common.{rules}
 use Rattle.objects.specs.Register.{register_after}
 use Rattle.values.specs.Bits.{back}
 use Rattle.objects.proofs.register.after.Goals as goal

@@ -1,5 +1,4 @@
 -- A Write answers WriteOk, a Read what is stored.
-use Rattle.std.proofs.Common.{rules}
 use Rattle.objects.specs.Register.{register_answer}
 use Rattle.values.specs.Bits.{back}
 use Rattle.objects.proofs.register.answer.Goals as goal

@@ -1,5 +1,4 @@
 -- Each return has its numbers in the table.
-use Rattle.std.proofs.Common.{rules}
 use Rattle.objects.specs.Register.{register_ret_coded}
 use Rattle.values.specs.Bits.{back}
 use Rattle.objects.proofs.register.ret_coded.Goals as goal

@@ -1,5 +1,5 @@
 -- The number tells the return, and the rest what it carries.
-use Rattle.std.proofs.Common.{eq-eqb, ne_eqb, rules}
+use Rattle.std.proofs.Common.{eq-eqb, ne_eqb}
 use Rattle.objects.specs.Register.{register_ret_from}
 use Rattle.values.specs.Bits.{back}
 use Rattle.objects.proofs.register.ret_from.Goals as goal

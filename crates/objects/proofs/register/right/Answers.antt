@@ -1,5 +1,4 @@
 -- Operation and return must be of a pair, and a ReadOk have the stored value.
-use Rattle.std.proofs.Common.{rules}
 use Rattle.values.specs.Value.{eq_z}
 use Rattle.values.specs.Coded.{same_coded}
 use Rattle.objects.specs.Register.{register_answer, register_ret_coded}

@@ -1,5 +1,5 @@
 -- One place changes at most, within the room, and the undo names it with what it had.
-use Rattle.std.proofs.Common.{◌-◌, arith, rules, eq-eqb, le-leb, le-ltb, lt-ltb, ne_eqb}
+use Rattle.std.proofs.Common.{◌-◌, arith, eq-eqb, le-leb, le-ltb, lt-ltb, ne_eqb}
 use Rattle.std.proofs.lemmas.Bool.{lt-leb}
 use Rattle.values.specs.Sizes.{room}
 use Rattle.objects.specs.Stack.{item_at, depth_after, items_after, frees, stack_changes, stack_acted}

@@ -1,5 +1,4 @@
 -- A Pop answers what is on top, a Len the depth.
-use Rattle.std.proofs.Common.{rules}
 use Rattle.objects.specs.Stack.{storage_answer}
 use Rattle.objects.proofs.vec.answer.Goals as goal
 

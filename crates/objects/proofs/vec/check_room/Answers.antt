@@ -1,5 +1,5 @@
 -- Only a Push asks for room, and there is none at the full depth.
-use Rattle.std.proofs.Common.{eq-eqb, ne_eqb, sym, ◌∙◌, rules}
+use Rattle.std.proofs.Common.{eq-eqb, ne_eqb, sym, ◌∙◌}
 use Rattle.objects.specs.Stack.{stack_room}
 use Rattle.objects.proofs.vec.check_room.Goals as goal
 

@@ -1,5 +1,5 @@
 -- The number tells the operation, and its word the value.
-use Rattle.std.proofs.Common.{eq-eqb, ne_eqb, rules}
+use Rattle.std.proofs.Common.{eq-eqb, ne_eqb}
 use Rattle.objects.specs.Stack.{stack_op_from}
 use Rattle.values.specs.Bits.{back}
 use Rattle.objects.proofs.vec.op_from.Goals as goal

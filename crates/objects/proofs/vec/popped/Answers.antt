@@ -1,5 +1,4 @@
 -- By cases.
-use Rattle.std.proofs.Common.{rules}
 use Rattle.objects.specs.Stack.{popped}
 use Rattle.objects.proofs.vec.popped.Goals as goal
 

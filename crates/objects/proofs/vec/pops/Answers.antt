@@ -1,5 +1,4 @@
 -- By cases.
-use Rattle.std.proofs.Common.{rules}
 use Rattle.objects.specs.Stack.{pops}
 use Rattle.objects.proofs.vec.pops.Goals as goal
 

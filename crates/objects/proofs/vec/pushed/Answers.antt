@@ -1,5 +1,4 @@
 -- By cases.
-use Rattle.std.proofs.Common.{rules}
 use Rattle.objects.specs.Stack.{pushed}
 use Rattle.objects.proofs.vec.pushed.Goals as goal
 

@@ -1,5 +1,4 @@
 -- By cases.
-use Rattle.std.proofs.Common.{rules}
 use Rattle.objects.specs.Stack.{pushes}
 use Rattle.objects.proofs.vec.pushes.Goals as goal
 

@@ -1,5 +1,4 @@
 -- Each return has its numbers in the table.
-use Rattle.std.proofs.Common.{rules}
 use Rattle.objects.specs.Stack.{stack_ret_coded}
 use Rattle.objects.proofs.vec.ret_coded.Goals as goal
 

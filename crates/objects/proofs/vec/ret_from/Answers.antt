@@ -1,5 +1,5 @@
 -- The number tells the return, and the rest what it carries.
-use Rattle.std.proofs.Common.{eq-eqb, ne_eqb, rules}
+use Rattle.std.proofs.Common.{eq-eqb, ne_eqb}
 use Rattle.objects.specs.Stack.{stack_ret_from}
 use Rattle.objects.proofs.vec.ret_from.Goals as goal
 

@@ -1,5 +1,4 @@
 -- Operation and return must be of a pair, and carry what the storage answers.
-use Rattle.std.proofs.Common.{rules}
 use Rattle.values.specs.Coded.{same_coded, maybe_coded}
 use Rattle.values.specs.SameValues.{maybe_same}
 use Rattle.objects.specs.Stack.{storage_answer, stack_ret_coded}

@@ -1,5 +1,5 @@
 -- The top is the last item below the depth.
-use Rattle.std.proofs.Common.{rules, eq-eqb, le-ltb, lt-ltb, ne_eqb}
+use Rattle.std.proofs.Common.{eq-eqb, le-ltb, lt-ltb, ne_eqb}
 use Rattle.objects.specs.Stack.{top_of, item_at}
 use Rattle.values.specs.Bits.{back}
 use Rattle.objects.proofs.vec.top_of.Goals as goal

@@ -1,5 +1,4 @@
 -- Only a Write on nothing stores.
-use Rattle.std.proofs.Common.{rules}
 use Rattle.objects.specs.WriteOnce.{once_after}
 use Rattle.values.specs.Bits.{back}
 use Rattle.objects.proofs.write_once_register.after.Goals as goal

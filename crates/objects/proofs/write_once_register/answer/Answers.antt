@@ -1,5 +1,5 @@
 -- A Write answers whether it succeeds, a Read what is stored.
-use Rattle.std.proofs.Common.{sym, ◌∙◌, rules}
+use Rattle.std.proofs.Common.{sym, ◌∙◌}
 use Rattle.objects.specs.WriteOnce.{once_answer, write_answer}
 use Rattle.values.specs.Bits.{back}
 use Rattle.objects.proofs.write_once_register.answer.Goals as goal

@@ -1,5 +1,4 @@
 -- Each return has its numbers in the table.
-use Rattle.std.proofs.Common.{rules}
 use Rattle.objects.specs.WriteOnce.{once_ret_coded}
 use Rattle.objects.proofs.write_once_register.ret_coded.Goals as goal
 

@@ -1,5 +1,5 @@
 -- The number tells the return, and the rest what it carries.
-use Rattle.std.proofs.Common.{eq-eqb, ne_eqb, rules}
+use Rattle.std.proofs.Common.{eq-eqb, ne_eqb}
 use Rattle.objects.specs.WriteOnce.{once_ret_from}
 use Rattle.objects.proofs.write_once_register.ret_from.Goals as goal
 

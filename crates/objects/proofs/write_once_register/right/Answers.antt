@@ -1,5 +1,4 @@
 -- A Write has the return that says whether it succeeds, a Read that of what is stored.
-use Rattle.std.proofs.Common.{rules}
 use Rattle.values.specs.Coded.{same_coded, maybe_coded}
 use Rattle.values.specs.SameValues.{maybe_same}
 use Rattle.objects.specs.WriteOnce.{once_answer, once_ret_coded}

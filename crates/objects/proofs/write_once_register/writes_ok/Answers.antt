@@ -1,5 +1,4 @@
 -- A Write succeeds on nothing and on an equal value.
-use Rattle.std.proofs.Common.{rules}
 use Rattle.objects.specs.WriteOnce.{writes}
 use Rattle.values.specs.Bits.{back}
 use Rattle.objects.proofs.write_once_register.writes_ok.Goals as goal

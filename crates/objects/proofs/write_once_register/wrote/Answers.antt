@@ -1,5 +1,4 @@
 -- WriteOk says that it succeeds and WriteFail that it does not; a ReadOk says neither.
-use Rattle.std.proofs.Common.{rules}
 use Rattle.values.specs.Coded.{same_coded, maybe_coded}
 use Rattle.objects.specs.WriteOnce.{write_answer, once_ret_coded}
 use Rattle.objects.proofs.WriteAnswers.{wrote_ok, wrote_no_value}

@@ -1,5 +1,5 @@
 -- An event that is taken has a thread and a place, where its change is stored; one that is refused changes validity at most.
-use Rattle.std.proofs.Common.{◌<◌, ◌≡◌, sym, ◌∙◌, true, arith, rules}
+use Rattle.std.proofs.Common.{◌<◌, ◌≡◌, sym, ◌∙◌, true, arith}
 use Rattle.values.specs.Sizes.{threads, capacity}
 use Rattle.stepping.specs.EventSteps.{is_taken}
 use Rattle.stepping.proofs.Admitting.{event_fits, event_taken, event_refused}

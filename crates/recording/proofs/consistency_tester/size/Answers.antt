@@ -1,5 +1,5 @@
 -- A record out of shape has no operations.
-use Rattle.std.proofs.Common.{◌-◌, sym, ◌∙◌, rules}
+use Rattle.std.proofs.Common.{sym, ◌∙◌}
 use Rattle.stepping.specs.Shape.{shaped_with}
 use Rattle.stepping.proofs.Admitting.{size_yes, size_no}
 use Rattle.shape.specs.Marking.{looks}

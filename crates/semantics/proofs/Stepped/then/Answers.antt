@@ -1,5 +1,5 @@
 -- A record that calls could not have made gets 9; else what is said is looked at.
-use Rattle.std.proofs.Common.{sym, ◌∙◌, rules}
+use Rattle.std.proofs.Common.{sym, ◌∙◌}
 use Rattle.semantics.specs.Calls.{then_of}
 use Rattle.semantics.proofs.Stepped.then.Goals as goal
 

@@ -1,5 +1,5 @@
 -- Each refusal is looked at by itself, and no room with whether the object is full.
-use Rattle.std.proofs.Common.{sym, ◌∙◌, rules}
+use Rattle.std.proofs.Common.{sym, ◌∙◌}
 use Rattle.semantics.specs.Calls.{drawn_check}
 use Rattle.semantics.proofs.refusal.check_drawn.Goals as goal
 

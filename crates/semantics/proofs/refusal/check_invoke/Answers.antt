@@ -1,5 +1,4 @@
 -- The checks are looked at in their order.
-use Rattle.std.proofs.Common.{rules}
 use Rattle.semantics.specs.Calls.{invoke_check}
 use Rattle.semantics.proofs.refusal.check_invoke.Goals as goal
 

@@ -1,5 +1,4 @@
 -- The shape is looked at first, whatever is said.
-use Rattle.std.proofs.Common.{rules}
 use Rattle.semantics.specs.Calls.{said_check}
 use Rattle.semantics.proofs.refusal.check_said.Goals as goal
 

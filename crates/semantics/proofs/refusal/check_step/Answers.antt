@@ -1,5 +1,4 @@
 -- The checks are looked at in their order.
-use Rattle.std.proofs.Common.{rules}
 use Rattle.semantics.specs.Calls.{step_check}
 use Rattle.semantics.proofs.refusal.check_step.Goals as goal
 

@@ -1,5 +1,5 @@
 -- The notes are written thread by thread.
-use Rattle.std.proofs.Common.{ℕ, ◌≤◌, ◌-◌, ◌≡◌, refl, subst, arith, rules, le-leb}
+use Rattle.std.proofs.Common.{ℕ, ◌≡◌, refl, subst, arith, rules, le-leb}
 use Rattle.std.proofs.lemmas.Bool.{lt-leb}
 use Rattle.values.specs.Sizes.{threads}
 use Rattle.shape.specs.Notes.{notes_with}

@@ -1,10 +1,7 @@
 -- The notes are written thread by thread.
-use Rattle.std.proofs.Common.{ℕ, ◌≤◌, ◌-◌, ◌≡◌, refl, subst, arith, rules, le-leb}
-use Rattle.std.proofs.lemmas.Bool.{lt-leb}
+use Rattle.std.proofs.Common.{◌≤◌, ◌-◌, ◌≡◌}
 use Rattle.values.specs.Sizes.{threads}
 use Rattle.shape.specs.Notes.{notes_with}
-use Rattle.shape.specs.Notes.{noted_at}
-use Rattle.shape.proofs.NotesLaws.{note_more}
 use Rattle.shape.proofs.notes.note.Given as goal
 
 abbrev pub invariant-loop-u : goal.invariant-loop-u

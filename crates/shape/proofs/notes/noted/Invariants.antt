@@ -1,12 +1,7 @@
 -- What is left of the notes fits exactly if all do.
-use Rattle.std.proofs.Common.{◌≤◌, ◌-◌, ◌≡◌, refl, sym, ◌∙◌, arith, drop, length, rules}
-use Rattle.std.proofs.lemmas.Bool.{lt-leb}
-use Rattle.values.specs.Sizes.{capacity}
+use Rattle.std.proofs.Common.{◌≤◌, ◌-◌, ◌≡◌, drop}
 use Rattle.stepping.specs.Record.{held}
 use Rattle.stepping.specs.Shape.{notes_fit_from}
-use Rattle.shape.specs.Notes.{notes_in}
-use Rattle.stepping.specs.RecordLaws.{unmapped}
-use Rattle.shape.proofs.NotesLaws.{notes_yes, notes_no, notes_end, notes_all}
 use Rattle.shape.proofs.notes.noted.Given as goal
 
 abbrev pub invariant-loop-i : goal.invariant-loop-i

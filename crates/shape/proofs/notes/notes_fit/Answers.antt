@@ -1,5 +1,5 @@
 -- Each thread's note is held to what it can be.
-use Rattle.std.proofs.Common.{ℕ, ◌≤◌, ◌-◌, Bool, true, ◌≡◌, refl, sym, ap, ◌∙◌, rules, le-leb}
+use Rattle.std.proofs.Common.{ℕ, Bool, refl, sym, ap, ◌∙◌, rules, le-leb}
 use Rattle.std.specs.Prelude.{leb}
 use Rattle.std.proofs.Math.ListN.{get_or}
 use Rattle.std.proofs.lemmas.Bool.{lt-leb}

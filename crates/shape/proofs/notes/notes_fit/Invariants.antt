@@ -1,11 +1,9 @@
 -- Each thread's note is held to what it can be.
-use Rattle.std.proofs.Common.{ℕ, ◌≤◌, ◌-◌, Bool, true, ◌≡◌, refl, sym, ap, ◌∙◌, rules, le-leb}
+use Rattle.std.proofs.Common.{◌≤◌, ◌-◌, true, ◌≡◌}
 use Rattle.std.specs.Prelude.{leb}
 use Rattle.std.proofs.Math.ListN.{get_or}
-use Rattle.std.proofs.lemmas.Bool.{lt-leb}
 use Rattle.values.specs.Sizes.{threads}
-use Rattle.stepping.specs.Shape.{all_below, note_at, notable, notes_fit}
-use Rattle.stepping.specs.RecordLaws.{below_no, below_more, below_end}
+use Rattle.stepping.specs.Shape.{all_below, note_at, notable}
 use Rattle.shape.proofs.notes.notes_fit.Given as goal
 
 abbrev pub invariant-loop-u : goal.invariant-loop-u

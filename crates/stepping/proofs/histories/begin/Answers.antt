@@ -1,5 +1,4 @@
 -- An object that can be started with is, and else its default is.
-use Rattle.std.proofs.Common.{rules}
 use Rattle.stepping.specs.EventSteps.{begun_of}
 use Rattle.stepping.proofs.histories.begin.Goals as goal
 

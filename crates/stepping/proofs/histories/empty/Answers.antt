@@ -1,5 +1,4 @@
 -- A blank operation fills every place.
-use Rattle.std.proofs.Common.{rules}
 use Rattle.stepping.specs.Record.{fresh}
 use Rattle.stepping.proofs.histories.empty.Goals as goal
 

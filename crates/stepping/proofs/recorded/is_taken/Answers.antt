@@ -1,5 +1,4 @@
 -- By cases.
-use Rattle.std.proofs.Common.{rules}
 use Rattle.stepping.specs.EventSteps.{is_taken}
 use Rattle.stepping.proofs.recorded.is_taken.Goals as goal
 

@@ -1,5 +1,4 @@
 -- A refused start has the number of the object's refusal.
-use Rattle.std.proofs.Common.{rules}
 use Rattle.stepping.specs.EventSteps.{made_number_of}
 use Rattle.stepping.proofs.recorded.made_number.Goals as goal
 

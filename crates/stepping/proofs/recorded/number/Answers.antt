@@ -1,5 +1,4 @@
 -- Taken is 0, and a refusal has the number of its reason.
-use Rattle.std.proofs.Common.{rules}
 use Rattle.stepping.specs.EventSteps.{number_of}
 use Rattle.stepping.proofs.recorded.number.Goals as goal
 

@@ -1,5 +1,4 @@
 -- Each reason has its number of document 01, and one of the object the object's.
-use Rattle.std.proofs.Common.{rules}
 use Rattle.stepping.specs.EventSteps.{reason_number}
 use Rattle.stepping.proofs.recorded.reason_number.Goals as goal
 

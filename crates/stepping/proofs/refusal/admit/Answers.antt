@@ -1,5 +1,5 @@
 -- The reasons are looked at in their order.
-use Rattle.std.proofs.Common.{ℕ, ◌≡◌, refl, ◌∙◌, Bool, true, false, rules}
+use Rattle.std.proofs.Common.{ℕ, ◌≡◌, refl, ◌∙◌, Bool, true, false}
 use Rattle.std.specs.Prelude.{ltb}
 use Rattle.values.specs.Sizes.{threads}
 use Rattle.stepping.specs.declared.recorded.Recorded.{Recorded}

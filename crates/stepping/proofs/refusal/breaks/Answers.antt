@@ -1,5 +1,4 @@
 -- By cases.
-use Rattle.std.proofs.Common.{rules}
 use Rattle.stepping.specs.EventSteps.{breaks}
 use Rattle.stepping.proofs.refusal.breaks.Goals as goal
 

@@ -1,5 +1,5 @@
 -- What is let pass is busy, full or taken.
-use Rattle.std.proofs.Common.{le-ltb, lt-ltb, sym, ◌∙◌, rules}
+use Rattle.std.proofs.Common.{le-ltb, lt-ltb, sym, ◌∙◌}
 use Rattle.stepping.specs.StepChecks.{invoke_check}
 use Rattle.stepping.proofs.refusal.check_invoke.Goals as goal
 

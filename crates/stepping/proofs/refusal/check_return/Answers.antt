@@ -1,5 +1,5 @@
 -- What is let pass is taken, or has nothing to complete.
-use Rattle.std.proofs.Common.{sym, ◌∙◌, rules}
+use Rattle.std.proofs.Common.{sym, ◌∙◌}
 use Rattle.stepping.specs.StepChecks.{return_check}
 use Rattle.stepping.proofs.refusal.check_return.Goals as goal
 

@@ -1,5 +1,4 @@
 -- What the object refuses is refused with its reason.
-use Rattle.std.proofs.Common.{rules}
 use Rattle.stepping.specs.StepChecks.{checked_of}
 use Rattle.stepping.proofs.refusal.checked.Goals as goal
 

@@ -1,5 +1,5 @@
 -- The second counts only where the first lets pass.
-use Rattle.std.proofs.Common.{sym, ◌∙◌, rules}
+use Rattle.std.proofs.Common.{sym, ◌∙◌}
 use Rattle.stepping.specs.StepChecks.{in_turn}
 use Rattle.stepping.proofs.refusal.in_turn.Goals as goal
 

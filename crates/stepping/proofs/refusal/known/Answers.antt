@@ -1,5 +1,5 @@
 -- A thread above 7 is refused.
-use Rattle.std.proofs.Common.{le-ltb, lt-ltb, rules}
+use Rattle.std.proofs.Common.{le-ltb, lt-ltb}
 use Rattle.stepping.specs.StepChecks.{known_of}
 use Rattle.stepping.proofs.refusal.known.Goals as goal
 

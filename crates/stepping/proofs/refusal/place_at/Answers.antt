@@ -1,5 +1,4 @@
 -- By cases.
-use Rattle.std.proofs.Common.{rules}
 use Rattle.stepping.specs.StepChecks.{place_at}
 use Rattle.stepping.proofs.refusal.place_at.Goals as goal
 

@@ -1,5 +1,5 @@
 -- A thread that there is has its mark.
-use Rattle.std.proofs.Common.{◌∙◌, rules, le-ltb, lt-ltb}
+use Rattle.std.proofs.Common.{◌∙◌, le-ltb, lt-ltb}
 use Rattle.stepping.specs.StepChecks.{place_in}
 use Rattle.stepping.proofs.refusal.place_in.Goals as goal
 

@@ -1,5 +1,5 @@
 -- A mark of 0 says nothing, any other the place below it.
-use Rattle.std.proofs.Common.{rules, eq-eqb, ne_eqb}
+use Rattle.std.proofs.Common.{eq-eqb, ne_eqb}
 use Rattle.stepping.specs.StepChecks.{place_of}
 use Rattle.stepping.proofs.refusal.place_of.Goals as goal
 

@@ -1,5 +1,5 @@
 -- Only a reason that breaks turns validity off.
-use Rattle.std.proofs.Common.{sym, ◌∙◌, rules}
+use Rattle.std.proofs.Common.{sym, ◌∙◌}
 use Rattle.stepping.specs.EventSteps.{valid_after}
 use Rattle.stepping.proofs.refusal.valid_after.Goals as goal
 

@@ -1,5 +1,5 @@
 -- Each kind of event changes its own fields, as the definition has it.
-use Rattle.std.proofs.Common.{refl, rules}
+use Rattle.std.proofs.Common.{refl}
 use Rattle.stepping.specs.OneStep.{change_of}
 use Rattle.stepping.proofs.step.change_of.Goals as goal
 

@@ -1,5 +1,5 @@
 -- The first reasons, then those of its kind of event, with the place that the marks say.
-use Rattle.std.proofs.Common.{refl, ◌∙◌, rules}
+use Rattle.std.proofs.Common.{refl, ◌∙◌}
 use Rattle.stepping.specs.OneStep.{comes_to}
 use Rattle.stepping.proofs.step.comes_to.Goals as goal
 

@@ -1,5 +1,5 @@
 -- An invocation goes behind those held, a return to where its thread has one in flight.
-use Rattle.std.proofs.Common.{refl, rules}
+use Rattle.std.proofs.Common.{refl}
 use Rattle.stepping.specs.OneStep.{place_for}
 use Rattle.stepping.proofs.step.place_for.Goals as goal
 

@@ -1,5 +1,5 @@
 -- By cases.
-use Rattle.std.proofs.Common.{refl, rules}
+use Rattle.std.proofs.Common.{refl}
 use Rattle.stepping.specs.OneStep.{thread_of}
 use Rattle.stepping.proofs.step.thread_of.Goals as goal
 

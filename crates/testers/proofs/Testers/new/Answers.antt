@@ -1,6 +1,5 @@
 -- `testers::Testers::new` hands back what both constructors do.
 use Rattle.testers.specs.PairedCalls.{new_of}
-use Rattle.std.proofs.Common.{rules}
 use Rattle.testers.proofs.Testers.new.Goals as goal
 
 pub returns : goal.returns

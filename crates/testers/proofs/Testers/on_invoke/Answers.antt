@@ -1,6 +1,5 @@
 -- `testers::Testers::on_invoke` hands back what both testers do.
 use Rattle.testers.specs.PairedCalls.{invoke_of}
-use Rattle.std.proofs.Common.{rules}
 use Rattle.testers.proofs.Testers.on_invoke.Goals as goal
 
 pub returns : goal.returns

@@ -1,6 +1,5 @@
 -- `testers::Testers::on_invret` hands back what both testers do.
 use Rattle.testers.specs.PairedCalls.{invret_of}
-use Rattle.std.proofs.Common.{rules}
 use Rattle.testers.proofs.Testers.on_invret.Goals as goal
 
 pub returns : goal.returns

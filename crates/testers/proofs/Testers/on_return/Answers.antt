@@ -1,6 +1,5 @@
 -- `testers::Testers::on_return` hands back what both testers do.
 use Rattle.testers.specs.PairedCalls.{return_of}
-use Rattle.std.proofs.Common.{rules}
 use Rattle.testers.proofs.Testers.on_return.Goals as goal
 
 pub returns : goal.returns

@@ -1,5 +1,4 @@
 -- Nothing carries no value; a value is told by the number that it is sent as.
-use Rattle.std.proofs.Common.{rules}
 use Rattle.values.specs.Coded.{maybe_coded}
 use Rattle.values.specs.Bits.{back}
 use Rattle.values.proofs.coded.maybe_coded.Goals as goal

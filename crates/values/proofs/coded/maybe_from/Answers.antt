@@ -1,5 +1,5 @@
 -- A count of 0 says nothing, any other a value, read back from its word.
-use Rattle.std.proofs.Common.{eq-eqb, ne_eqb, rules}
+use Rattle.std.proofs.Common.{eq-eqb, ne_eqb}
 use Rattle.values.specs.Coded.{maybe_from}
 use Rattle.values.specs.Bits.{back}
 use Rattle.values.proofs.coded.maybe_from.Goals as goal

@@ -1,5 +1,4 @@
 -- A refusal stands, and else the second check decides.
-use Rattle.std.proofs.Common.{rules}
 use Rattle.values.specs.Checks.{in_order}
 use Rattle.values.proofs.refusal.in_order.Goals as goal
 

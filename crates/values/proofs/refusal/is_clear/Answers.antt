@@ -1,5 +1,4 @@
 -- By cases.
-use Rattle.std.proofs.Common.{rules}
 use Rattle.values.specs.Checks.{is_clear}
 use Rattle.values.proofs.refusal.is_clear.Goals as goal
 

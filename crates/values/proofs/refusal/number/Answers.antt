@@ -1,5 +1,4 @@
 -- Each refusal has its number of document 01.
-use Rattle.std.proofs.Common.{rules}
 use Rattle.values.specs.Checks.{number_of}
 use Rattle.values.proofs.refusal.number.Goals as goal
 

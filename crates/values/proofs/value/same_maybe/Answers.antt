@@ -1,5 +1,4 @@
 -- Nothing is the same as nothing, and a value as an equal one.
-use Rattle.std.proofs.Common.{rules}
 use Rattle.values.specs.Value.{same_maybe}
 use Rattle.values.specs.Bits.{back}
 use Rattle.values.proofs.value.same_maybe.Goals as goal

@@ -1,5 +1,5 @@
 -- The lowest bit tells the sign, and the others the half.
-use Rattle.std.proofs.Common.{◌%◌, sym, ◌∙◌, to_z-of_z, rules, eq-eqb, ne_eqb}
+use Rattle.std.proofs.Common.{◌%◌, sym, ◌∙◌, to_z-of_z, eq-eqb, ne_eqb}
 use Rattle.std.specs.Int.Bits.{and_mask}
 use Rattle.values.specs.Value.{signed}
 use Rattle.values.proofs.Signed.{half_pos, half_less, half_fits}

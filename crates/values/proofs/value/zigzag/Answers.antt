@@ -1,5 +1,5 @@
 -- Below zero the number is odd, else even, and both fit 32 bits.
-use Rattle.values.proofs.Zigzag.{casts, doubles, doubles_more, half, word, below_fits, below_half, below_word}
+use Rattle.values.proofs.Zigzag.{word, below_word}
 use Rattle.values.proofs.value.zigzag.Goals as goal
 
 pub returns-then-v-lt0 : goal.returns-then-v-lt0

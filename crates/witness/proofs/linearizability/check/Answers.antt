@@ -1,12 +1,11 @@
 -- A record in shape and valid has its order replayed, and any other gets no.
 use Rattle.std.proofs.Common.{◌≤◌, ◌≡◌, sym, ◌∙◌, length, rules}
-use Rattle.values.specs.Sizes.{threads, capacity, room}
+use Rattle.values.specs.Sizes.{capacity, room}
 use Rattle.stepping.specs.Shape.{shape_of}
 use Rattle.recording.specs.Testers.{notes_shaped}
 use Rattle.recording_meaning.specs.Reading.{Sized}
 use Rattle.recording_meaning.specs.Parts.{pick_right, parts_of}
 use Rattle.recording_meaning.specs.Models.{linearizability_model}
-use Rattle.stepping.specs.RecordLaws.{unmapped}
 use Rattle.witness.proofs.Endings.{notes_met}
 use Rattle.witness.proofs.Checks.{check_unshaped, check_invalid, check_replayed}
 use Rattle.witness.proofs.linearizability.check.Goals as goal

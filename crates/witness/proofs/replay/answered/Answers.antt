@@ -1,4 +1,3 @@
-use borrow.Author.Rules.{rules}
 use Rattle.witness.specs.WordsPlayed.{answered_of}
 use Rattle.witness.proofs.replay.answered.Goals as goal
 

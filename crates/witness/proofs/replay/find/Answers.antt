@@ -1,12 +1,10 @@
 -- What is left of the operations has the one that is looked for, at so many fewer of its thread.
-use Prim.Native.Nat.{ℕ, ◌+◌, ◌≤◌, ◌-◌}
+use Prim.Native.Nat.{ℕ, ◌+◌, ◌≤◌}
 use mathlib.Core.Path.{◌≡◌, sym, subst}
-use mathlib.Core.Logic.{⊎_elim}
 use native.Mathlib.Omega.{arith}
 use lib.ListN.{length}
 use borrow.Author.Rules.{rules}
 use Rattle.values.specs.Sizes.{capacity}
-use Rattle.stepping.specs.RecordLaws.{unmapped}
 use Rattle.witness.proofs.Finding.{Finding, find_start, found, find_own, find_other, find_end}
 use Rattle.witness.proofs.replay.find.Goals as goal
 use Rattle.witness.proofs.replay.find.Goals.{then-o-thread+else-left-eq0, else-o-thread}

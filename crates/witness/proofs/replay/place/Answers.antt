@@ -6,7 +6,6 @@ use borrow.Author.Rules.{rules}
 use borrow.Author.Tests.{lt-ltb, le-ltb}
 use Rattle.values.specs.Sizes.{capacity}
 use Rattle.witness.specs.WordsPlayed.{stage_after}
-use Rattle.stepping.specs.RecordLaws.{unmapped}
 use Rattle.witness.proofs.Finding.{number_below}
 use Rattle.witness.proofs.replay.place.Goals as goal
 

@@ -1,16 +1,11 @@
 -- All threads from the first on have what is wanted.
 use Prim.Native.Nat.{◌+◌, ◌≤◌, ◌-◌}
-use mathlib.Core.Path.{◌≡◌, refl, sym}
+use mathlib.Core.Path.{◌≡◌}
 use mathlib.Core.Bool.{true}
-use native.Mathlib.Omega.{arith}
 use lib.ListN.{get_or}
 use lib.Dec.{leb}
-use borrow.Author.Rules.{rules}
-use borrow.Author.Tests.{le-leb, lt-leb}
 use Rattle.values.specs.Sizes.{threads}
 use Rattle.stepping.specs.Shape.{all_below}
-use Rattle.witness.specs.WordsPlayed.{reaches_of}
-use Rattle.stepping.specs.RecordLaws.{below_no, below_more, below_end}
 use Rattle.witness.proofs.replay.reaches.Given as goal
 
 abbrev pub invariant-loop-u : goal.invariant-loop-u

@@ -1,4 +1,3 @@
-use borrow.Author.Rules.{rules}
 use Rattle.witness.specs.WordsPlayed.{said_yes}
 use Rattle.witness.proofs.replay.said_yes.Goals as goal
 

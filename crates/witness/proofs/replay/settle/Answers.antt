@@ -1,4 +1,3 @@
-use borrow.Author.Rules.{rules}
 use mathlib.Core.Path.{sym, ◌∙◌}
 use Rattle.witness.specs.WordsPlayed.{settle_of}
 use Rattle.witness.proofs.replay.settle.Goals as goal

@@ -4,7 +4,6 @@ use Rattle.values.specs.Sizes.{threads, capacity, room}
 use Rattle.recording_meaning.specs.Reading.{Sized}
 use Rattle.recording_meaning.specs.Parts.{parts_of}
 use Rattle.recording_meaning.specs.Models.{sequential_model}
-use Rattle.stepping.specs.RecordLaws.{unmapped}
 use Rattle.witness.proofs.Endings.{zeros_met}
 use Rattle.witness.proofs.Checks.{check_unshaped, check_invalid, check_replayed}
 use Rattle.witness.proofs.sequential_consistency.check.Goals as goal

@@ -1,5 +1,5 @@
 -- The three numbers of the return are compared one by one.
-use Rattle.std.proofs.Common.{◌≡◌, refl, Bool, true, false, rules, eq-eqb, ne_eqb}
+use Rattle.std.proofs.Common.{◌≡◌, refl, Bool, true, false, eq-eqb, ne_eqb}
 use Rattle.values.specs.Value.{pick}
 use Rattle.witness.specs.Words.{words_of}
 use Rattle.witness.specs.Checking.{same_words}

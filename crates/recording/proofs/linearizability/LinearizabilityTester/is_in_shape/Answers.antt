@@ -1,5 +1,5 @@
 -- The pass over the history answers, with what the notes say.
-use Rattle.std.proofs.Common.{◌-◌, Bool, ap, ◌∙◌, rules}
+use Rattle.std.proofs.Common.{Bool, ap, ◌∙◌}
 use Rattle.stepping.specs.Shape.{shaped_with}
 use Rattle.shape.specs.Marking.{looks}
 use Rattle.recording.proofs.linearizability.LinearizabilityTester.is_in_shape.Goals as goal

@@ -1,5 +1,5 @@
 -- The history's size, with what the notes say of its shape.
-use Rattle.std.proofs.Common.{◌-◌, Bool, ap, ◌∙◌, rules}
+use Rattle.std.proofs.Common.{Bool, ap, ◌∙◌}
 use Rattle.stepping.specs.EventSteps.{size_of}
 use Rattle.stepping.specs.Shape.{shaped_with}
 use Rattle.recording.specs.Testers.{linearizability_len}

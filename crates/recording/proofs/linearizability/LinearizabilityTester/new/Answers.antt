@@ -1,5 +1,4 @@
 -- The history begins as the object says, with no notes.
-use Rattle.std.proofs.Common.{rules}
 use Rattle.recording.specs.Testers.{new_linearizability}
 use Rattle.recording.proofs.linearizability.LinearizabilityTester.new.Goals as goal
 

@@ -1,5 +1,5 @@
 -- The notes are those of an invocation that is taken, and else stay.
-use Rattle.std.proofs.Common.{◌-◌, Bool, sym, ap, ◌∙◌, arith, rules}
+use Rattle.std.proofs.Common.{Bool, sym, ap, ◌∙◌, arith}
 use Rattle.stepping.specs.EventSteps.{invoke_of}
 use Rattle.stepping.specs.Shape.{shaped_with}
 use Rattle.recording.specs.Testers.{shaped_tester}

@@ -1,5 +1,5 @@
 -- A return leaves the notes as they are.
-use Rattle.std.proofs.Common.{◌-◌, Bool, ap, ◌∙◌, rules}
+use Rattle.std.proofs.Common.{Bool, ap, ◌∙◌}
 use Rattle.stepping.specs.EventSteps.{return_of}
 use Rattle.stepping.specs.Shape.{shaped_with}
 use Rattle.recording.specs.Testers.{linearizability_after, linearizability_return}

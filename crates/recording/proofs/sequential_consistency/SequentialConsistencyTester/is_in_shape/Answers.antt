@@ -1,5 +1,4 @@
 -- The pass over the history answers alone.
-use Rattle.std.proofs.Common.{◌-◌, rules}
 use Rattle.shape.specs.Marking.{looks}
 use Rattle.recording.proofs.sequential_consistency.SequentialConsistencyTester.is_in_shape.Goals as goal
 

@@ -1,5 +1,4 @@
 -- The history's size.
-use Rattle.std.proofs.Common.{◌-◌, rules}
 use Rattle.recording.specs.Testers.{sequential_len}
 use Rattle.recording.proofs.sequential_consistency.SequentialConsistencyTester.len.Goals as goal
 

@@ -1,5 +1,4 @@
 -- The history begins as the object says.
-use Rattle.std.proofs.Common.{rules}
 use Rattle.recording.specs.Testers.{new_sequential}
 use Rattle.recording.proofs.sequential_consistency.SequentialConsistencyTester.new.Goals as goal
 

@@ -1,5 +1,5 @@
 -- The return is tried exactly if the invocation was taken.
-use Rattle.std.proofs.Common.{◌-◌, sym, ◌∙◌, rules}
+use Rattle.std.proofs.Common.{sym, ◌∙◌}
 use Rattle.recording.specs.Testers.{sequential_invret}
 use Rattle.recording.proofs.sequential_consistency.SequentialConsistencyTester.on_invret.Goals as goal
 

@@ -1,5 +1,5 @@
 -- The history records the event.
-use Rattle.std.proofs.Common.{◌-◌, ap, rules}
+use Rattle.std.proofs.Common.{ap}
 use Rattle.recording.specs.Testers.{sequential_after, sequential_return}
 use Rattle.recording.proofs.sequential_consistency.SequentialConsistencyTester.on_return.Goals as goal
 
