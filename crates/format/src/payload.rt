@@ -10,6 +10,9 @@ use numbers::NumberRead;
 use numbers::refusal::Refusal;
 use values::coded::{Coded, Form};
 
+// The flag behind which a number follows.
+const FOLLOWED: u32 = 1;
+
 // The numbers that were read, and the place behind them.
 #[derive(Clone, Copy)]
 pub enum PayloadRead {
@@ -53,7 +56,7 @@ fn flagged_at(bytes: &[u8], at: usize, number: u32) -> PayloadRead
                 };
                 return PayloadRead::Payload { coded, next };
             }
-            if f == 1 {
+            if f == FOLLOWED {
                 return single_at(bytes, next, number);
             }
             let why = Refusal::Unknown;

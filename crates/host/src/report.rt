@@ -20,6 +20,7 @@ pub(crate) struct Report {
 }
 
 // Refusals 4 and 5 have made the history invalid; any other is one of the file.
+#[tactic(auto, unfolding(crate::specs::Call::refused_verdict))]
 fn refused_verdict(number: u8) -> u8
     ensures { result ≡ refused_verdict number }
 {

@@ -164,6 +164,7 @@ pub fn popped(ret: VecRet) -> bool
     }
 }
 
+#[tactic(auto, unfolding(crate::specs::Stack::depth_check))]
 pub fn check_depth(depth: u32) -> Check
     ensures { result ≡ depth_check depth }
 {
@@ -175,6 +176,7 @@ pub fn check_depth(depth: u32) -> Check
 }
 
 // An initial stack.
+#[tactic(auto, unfolding(crate::specs::Stack::low_check))]
 pub fn check_low(depth: u32) -> Check
     ensures { result ≡ low_check depth }
 {

@@ -93,6 +93,7 @@ pub(crate) fn admit(shaped: bool, valid: bool, thread: u32, own: Check) -> Recor
 }
 
 // An invocation that is admitted: 4, 6.
+#[tactic(auto, unfolding(crate::specs::StepChecks::invoke_check))]
 pub(crate) fn check_invoke(first: Recorded, place: Flying, count: usize) -> Recorded
     ensures { result ≡ invoke_check first place count }
 {

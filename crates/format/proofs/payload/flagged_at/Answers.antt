@@ -23,13 +23,13 @@ single_at-requires c =
     let flag = number_got (from number bytes c.args.at) c.number_at-flag.ensures c.in-Number.is in
     (next_in number 1 number_field bytes _ c.requires _ _ flag).1
 
-pub returns-then-f-eq1 : goal.returns-then-f-eq1
+pub returns-then-f-eq-FOLLOWED : goal.returns-then-f-eq-FOLLOWED
 unfolding maybe flagged
-returns-then-f-eq1 c =
+returns-then-f-eq-FOLLOWED c =
     let bytes = c.args.bytes.now in
     let flag = number_got (from number bytes c.args.at) c.number_at-flag.ensures c.in-Number.is in
     rw (then_got number (flagged _) bytes _ _ _ flag)
-    (simp (ne_eqb _ _ c.if-f-eq0.false, eq-eqb _ _ c.if-f-eq1.true) c.single_at.ensures)
+    (simp (ne_eqb _ _ c.if-f-eq0.false, eq-eqb _ _ c.if-f-eq-FOLLOWED.true) c.single_at.ensures)
 
 pub returns-in-Refused : goal.returns-in-Refused
 unfolding maybe
@@ -39,10 +39,10 @@ returns-in-Refused c =
     let why = number_refused (from number bytes at) c.number_at-flag.ensures c.in-Refused.is in
     ap as_payload (sym (then_refused number (flagged _) bytes at _ why))
 
-pub returns-else-f-eq1 : goal.returns-else-f-eq1
+pub returns-else-f-eq-FOLLOWED : goal.returns-else-f-eq-FOLLOWED
 unfolding maybe flagged
-returns-else-f-eq1 c =
+returns-else-f-eq-FOLLOWED c =
     let bytes = c.args.bytes.now in
     let flag = number_got (from number bytes c.args.at) c.number_at-flag.ensures c.in-Number.is in
     rw (then_got number (flagged _) bytes _ _ _ flag)
-    (simp (ne_eqb _ _ c.if-f-eq0.false, ne_eqb _ _ c.if-f-eq1.false) (ap as_payload (sym (from_refuse bytes c.in-Number.next _))))
+    (simp (ne_eqb _ _ c.if-f-eq0.false, ne_eqb _ _ c.if-f-eq-FOLLOWED.false) (ap as_payload (sym (from_refuse bytes c.in-Number.next _))))
