@@ -1,10 +1,4 @@
 -- What is left of the words goes through from the stage in hand exactly if all of them do from the start.
-use Prim.Native.Nat.{◌+◌, ◌≤◌}
-use mathlib.Core.Path.{◌≡◌}
-use lib.ListN.{length}
-use native.Mathlib.Omega.{arith}
-use borrow.Author.Rules.{rules}
-use Rattle.values.specs.Sizes.{threads}
 use Rattle.witness.proofs.Going.{going_start, going_short, going_on, going_wrong, going_ended, going_pending}
 use Rattle.witness.proofs.replay.replay.Goals as goal
 
@@ -32,14 +26,6 @@ returns-else-stage c =
     let at-loop = c.loop-i in
     going_wrong a.notes.now a.history a.order.now at-loop.stage at-loop.i at-loop.invariant
     c.if-n-i-lt-WORDS.false c.place-stage.result c.place-stage.ensures c.if-stage.false
-
-pub reaches-requires : goal.reaches-requires
-reaches-requires c =
-    let start = c in
-    let many : length start.args.history.done ≡ threads
-    = search rules in
-    let enough : 0 + threads ≤ length start.args.history.done = omega arith in
-    enough
 
 pub returns-then-stage-2 : goal.returns-then-stage-2
 returns-then-stage-2 c =
