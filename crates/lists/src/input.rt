@@ -1,11 +1,27 @@
 // The files that the programs read.
-use std::io;
-use std::io::Read;
-use std::rt::Files;
+ghost use Rattle.std.specs.Prelude.{◌≤◌, length, IfOk};
 
-// The bytes at the start of a file, at most so many.
-pub fn read_up_to<R: Files + Alloc>(rt: &R, file: R::File, most: u64) -> io::Result<Vec<u8, R::A>> {
-    let mut bytes = Vec::new(rt.alloc());
-    file.take(most).read_to_end(&mut bytes)?;
-    Ok(bytes)
+use std::io;
+use std::io::{ErrorKind, Read};
+
+// Reads until the storage is full or the file ends, and says how many bytes at its start were read.
+pub fn read_full<F: Read>(file: &mut F, storage: &mut [u8]) -> io::Result<usize>
+    ensures { IfOk result (λ n. n ≤ length storage.new) }
+{
+    let mut at = 0;
+    for _ in 0..u64::MAX {
+        if at >= storage.len() {
+            return Ok(at);
+        }
+        match file.read(&mut storage[at..]) {
+            Ok(0) => return Ok(at),
+            Ok(n) => at += n,
+            Err(error) => {
+                if error.kind() != ErrorKind::Interrupted {
+                    return Err(error);
+                }
+            }
+        }
+    }
+    Ok(at)
 }

@@ -16,7 +16,7 @@ mod telling;
 mod verdicts;
 
 use list::{EVENTS, FILES, HISTORIES, OBJECTS, ORDERS};
-use lists::input::read_up_to;
+use lists::input::read_full;
 use lists::telling::say;
 use std::fs::File;
 use std::{fs, io};
@@ -33,13 +33,19 @@ fn counted(rt: &impl Print, list: u64, text: &[u8]) -> io::Result<[u64; COUNTS]>
     sequences::replay(rt, list, text)
 }
 
+// Handed out by a function, so that only its length is known where it is lent.
+fn blank() -> [u8; TEXT] {
+    [0; TEXT]
+}
+
 // The list that a file holds.
-fn read(rt: &HostRuntime, file: File, list: u64) -> io::Result<()> {
-    let text = read_up_to(rt, file, TEXT as u64)?;
-    if text.len() == TEXT {
+fn read(rt: &HostRuntime, mut file: File, list: u64) -> io::Result<()> {
+    let mut text = blank();
+    let length = read_full(&mut file, &mut text)?;
+    if length == TEXT {
         return say(rt, b"the list is too long\n");
     }
-    let counts = counted(rt, list, text.as_slice())?;
+    let counts = counted(rt, list, &text[..length])?;
     say_tally(rt, list, &counts)
 }
 

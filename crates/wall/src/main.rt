@@ -13,18 +13,24 @@ mod telling;
 mod trace;
 mod verdicts;
 
-use lists::input::read_up_to;
+use lists::input::read_full;
 use std::{fs, io};
 
 // Room for the traces.
 const TEXT: usize = 16384;
 
+// Handed out by a function, so that only its length is known where it is lent.
+fn blank() -> [u8; TEXT] {
+    [0; TEXT]
+}
+
 fn main(rt: HostRuntime) -> io::Result<()> {
     let path = "traces.txt";
     match fs::open(&rt, path) {
-        Ok(file) => {
-            let text = read_up_to(&rt, file, TEXT as u64)?;
-            script::run(&rt, text.as_slice())
+        Ok(mut file) => {
+            let mut text = blank();
+            let length = read_full(&mut file, &mut text)?;
+            script::run(&rt, &text[..length])
         }
         Err(error) => eprintln!(rt; "{path}: {error}"),
     }
