@@ -33,7 +33,8 @@ fn counted(rt: &impl Print, list: u64, text: &[u8]) -> io::Result<[u64; COUNTS]>
     sequences::replay(rt, list, text)
 }
 
-// Handed out by a function, so that only its length is known where it is lent.
+// Handed out by a function, so that only its length is known where it is lent: the check would go through a literal
+// of this length.
 fn blank() -> [u8; TEXT] {
     [0; TEXT]
 }
