@@ -1,11 +1,10 @@
 -- The loop over the events, for any model.
-use Rattle.std.proofs.Common.{ℕ, zero, suc, ◌+◌, ◌<◌, ◌≤◌, ◌≡◌, refl, sym, ap, ◌∙◌, ◌≢◌, List, [], ◌∷◌, arith, eq-eqb, ne_eqb, pos, length, drop, length-drop, drop_of_length-le, drop-drop}
+use Rattle.std.proofs.Common.{ℕ, zero, suc, ◌+◌, ◌<◌, ◌≤◌, ◌≡◌, refl, sym, ap, ◌∙◌, ◌≢◌, List, [], ◌∷◌, arith, eq-eqb, ne_eqb, pos, length, drop, length-drop, drop_of_length-le, drop-drop, Result}
 use Rattle.history.specs.Events.{Event}
 use Rattle.families.specs.Families.{families}
 use Rattle.families.specs.Objects.{new_register}
 use Rattle.families.specs.declared.Kind.{Kind}
 use Rattle.families.specs.declared.Object.{Object}
-use Rattle.stepping.specs.declared.recorded.Recorded.{Recorded}
 use Rattle.stepping.specs.EventSteps.{number_of as recorded_number}
 use Rattle.recording_meaning.specs.Models.{Model}
 use Rattle.numbers.specs.declared.refusal.Refusal.{Refusal}
@@ -15,6 +14,7 @@ use Rattle.format.specs.Format.{header, event}
 use Rattle.corpus.specs.Load.{Load, record_event, load, turn, load_from, load_of}
 use Rattle.format.specs.Taking.{first_in}
 use Rattle.format.specs.Lengths.{event_field}
+use Rattle.stepping.specs.declared.recorded.Reason.{Reason}
 
 module _ (M : Model) (k : Kind) (s : List ℕ) where
   -- what is left of the file comes to what the whole does
@@ -62,7 +62,7 @@ module _ (M : Model) (k : Kind) (s : List ℕ) where
       pub behind : (at < at + used) × (at + used ≤ length s)
       behind = omega (arith, length-drop at s, first_in (event k) 2 (event_field k) (drop at s) v used e)
 
-      module _ (r : Recorded) (next : M.Tester) (n : ℕ) (p : r ≡ (record_event M t v).0) (q : next ≡ (record_event M t v).1) (z : n ≡ recorded_number r) where
+      module _ (r : Result Unit Reason) (next : M.Tester) (n : ℕ) (p : r ≡ (record_event M t v).0) (q : next ≡ (record_event M t v).1) (z : n ≡ recorded_number r) where
         pub refused_by_lem : n ≢ 0 → load M n at next ≡ whole
         refused_by_lem d =
             let f : recorded_number (record_event M t v).0 ≢ 0 = λ g. d (z ∙ ap recorded_number p ∙ g) in

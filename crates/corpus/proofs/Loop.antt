@@ -1,7 +1,7 @@
 -- The loader's loop: what is left of the file comes to what the whole does, and the tester in hand stands as recording in place needs it.
-use Rattle.std.proofs.Common.{ℕ, ◌+◌, ◌<◌, ◌≤◌, ◌≡◌, refl, sym, ap, ◌∙◌, Bool, true, List, length, drop, replicate}
+use Rattle.std.proofs.Common.{ℕ, ◌+◌, ◌<◌, ◌≤◌, ◌≡◌, refl, sym, ap, ◌∙◌, Bool, true, List, Option, None, Result, length, drop, replicate}
 use Rattle.std.proofs.Math.ListN.{get_or}
-use Rattle.std.specs.Prelude.{set}
+use Rattle.std.specs.Prelude.{set, is_ok}
 use Rattle.values.specs.Sizes.{threads, capacity}
 use Rattle.families.specs.declared.Kind.{Kind}
 use Rattle.families.specs.declared.event.Event.{Event as CEvent}
@@ -9,43 +9,42 @@ use Rattle.stepping.specs.declared.histories.History.{History}
 use Rattle.recording.specs.declared.linearizability.LinearizabilityTester.{LinearizabilityTester}
 use Rattle.stepping.specs.declared.step.Change.{Change}
 use Rattle.stepping.specs.Record.{operation_at}
-use Rattle.stepping.specs.EventSteps.{is_taken}
 use Rattle.recording.specs.Testers.{linearizability}
 use Rattle.stepping.specs.OneStep.{thread_of, change_of, changed}
 use Rattle.recording_meaning.specs.Models.{linearizability_model}
-use Rattle.corpus.specs.declared.turns.Turn.{Turn}
-use Rattle.corpus.specs.declared.turns.Turn.TheVariants.{Stopped, Taken}
+use Rattle.corpus.specs.declared.turns.Taken.{Taken}
+use Rattle.corpus.specs.declared.turns.Stopped.{Stopped}
 use Rattle.format.specs.Format.{event}
 use Rattle.format.specs.ReadAnswers.{heard}
 use Rattle.corpus.specs.Load.{Load, load, load_from}
-use Rattle.corpus.specs.LoaderTurns.{comes_by, turn_of, noted_by, Fresh}
+use Rattle.corpus.specs.LoaderTurns.{comes_by, stopped_with, taken_at, turn_of, noted_by, Fresh}
 use Rattle.corpus.proofs.Loading.{Running, running, all_loaded, stopped, behind, refused_by_lem, recorded}
 use Rattle.stepping.specs.Drawn.{taken_number, refused_number}
 use Rattle.corpus.proofs.InPlace.{Standing, standing_new, event_fits, event_taken, event_refused, event_stands}
 use Rattle.corpus.proofs.Turning.{Taking, Stopping, unread, unrecorded, stops, takes}
 
-pub record Feeding (k : Kind) (s : List ℕ) (whole : Load linearizability_model) (h : History) (notes flying : List ℕ) (at : ℕ) : Type 0 where
+pub record Feeding (k : Kind) (s : List ℕ) (whole : Load linearizability_model) (h : History) (notes : List ℕ) (flying : List (Option ℕ)) (at : ℕ) : Type 0 where
   pub runs : Running linearizability_model k s whole at (linearizability h notes)
   pub stands : Standing h notes flying k
 
 pub feeding_new : {k : Kind} (s : List ℕ) (first : ℕ) (t : LinearizabilityTester) → Fresh k t
-    → Feeding k s (load_from linearizability_model (length s) k (drop first s) first t) t.history t.notes (replicate threads 0) first
+    → Feeding k s (load_from linearizability_model (length s) k (drop first s) first t) t.history t.notes (replicate threads None) first
 feeding_new {k} s first t w = record {
   runs = running linearizability_model k s first t;
   stands = rw w.new (standing_new w.start k w.of_kind w.clear);
 }
 
-module _ {k : Kind} {s : List ℕ} {whole : Load linearizability_model} {h : History} {notes flying : List ℕ} {at : ℕ}
+module _ {k : Kind} {s : List ℕ} {whole : Load linearizability_model} {h : History} {notes : List ℕ} {flying : List (Option ℕ)} {at : ℕ}
     (F : Feeding k s whole h notes flying at) where
   pub feeding_ended : length s ≤ at → load linearizability_model 0 0 (linearizability h notes) ≡ whole
   feeding_ended l = all_loaded linearizability_model k s F.runs l
 
   -- a turn of the loop
-  module _ (more : at < length s) {turn : Turn} (told : turn ≡ turn_of flying k h.count (event k (drop at s))) where
+  module _ (more : at < length s) {turn : Result Taken Stopped} (told : turn ≡ turn_of flying k h.count (event k (drop at s))) where
     abbrev pub off : Bool → LinearizabilityTester
     off b = linearizability (record { start = h.start; ops = h.ops; count = h.count; done = h.done; valid = b }) notes
 
-    pub feeding_stopped : {n : ℕ} {b : Bool} → turn ≡ Stopped n b → load linearizability_model n at (off b) ≡ whole
+    pub feeding_stopped : {n : ℕ} {b : Bool} → turn ≡ stopped_with n b → load linearizability_model n at (off b) ≡ whole
     feeding_stopped {n} {b} y = go (stops flying k h.count (event k (drop at s)) (sym y ∙ told))
       where
         go : Stopping flying k h.count (event k (drop at s)) n b → load linearizability_model n at (off b) ≡ whole
@@ -57,11 +56,11 @@ module _ {k : Kind} {s : List ℕ} {whole : Load linearizability_model} {h : His
             let w = event_refused h notes flying k F.stands v r refl (refused_number r d) b q in
             refused_by_lem linearizability_model k s F.runs more (heard v) used e r (off b) n w.0 w.1 z (λ y. d (sym z ∙ y))
 
-    module _ {v : CEvent} {i used : ℕ} (y : turn ≡ Taken v i used) where
+    module _ {v : CEvent} {i used : ℕ} (y : turn ≡ taken_at v i used) where
       w : Taking flying k h.count (event k (drop at s)) v i used
       w = takes flying k h.count (event k (drop at s)) (sym y ∙ told)
 
-      taken : is_taken (comes_by flying k h.count v) ≡ true
+      taken : is_ok (comes_by flying k h.count v) ≡ true
       taken = taken_number _ w.drawn
 
       -- the place behind it

@@ -3,10 +3,10 @@ use Rattle.std.specs.Prelude.{◌≡◌, refl, pos}
 use Rattle.families.specs.Objects.{new_register}
 use Rattle.families.specs.Family.{family_of, op_family, ret_family, family_number}
 use Rattle.families.specs.Refusals.{family_check, op_belongs, ret_belongs, start_check, shape_check, size_check}
-use Rattle.values.specs.Checks.{is_clear, in_order}
+use Rattle.values.specs.Checks.{in_order}
 use Rattle.stepping.specs.Record.{fresh, is_pending, flying_by, flying_from, find_flying}
 use Rattle.stepping.specs.Shape.{done_by, count_done, notable, all_below, outcome_fits, operation_fits, operations_fit, none_of, flying_last, counts_right, shape_of, notes_fit, notes_fit_from}
-use Rattle.stepping.specs.EventSteps.{number_of as recorded_number, is_taken, begun_of, invoke_of, return_of}
+use Rattle.stepping.specs.EventSteps.{number_of as recorded_number, begun_of, invoke_of, return_of}
 use Rattle.recording.specs.Testers.{new_sequential, sequential_invoke, sequential_return, new_linearizability, linearizability_invoke, linearizability_return}
 use Rattle.shape.specs.Notes.{notes_in, notes_with}
 use Rattle.recording_meaning.specs.Models.{Model, sequential_model, linearizability_model}
@@ -26,11 +26,11 @@ loads M all =
 -- Every event draws 0.
 
 all_sequential : AllRecorded sequential_model (sequential_model.new (new_register (pos 65))) trace_3
-unfolding new_register new_sequential sequential_invoke sequential_return recorded_number is_taken begun_of invoke_of return_of fresh is_pending flying_by flying_from find_flying done_by count_done all_below outcome_fits operation_fits operations_fit none_of flying_last counts_right shape_of family_of op_family ret_family family_number family_check op_belongs ret_belongs is_clear start_check shape_check size_check in_order
+unfolding new_register new_sequential sequential_invoke sequential_return recorded_number begun_of invoke_of return_of fresh is_pending flying_by flying_from find_flying done_by count_done all_below outcome_fits operation_fits operations_fit none_of flying_last counts_right shape_of family_of op_family ret_family family_number family_check op_belongs ret_belongs start_check shape_check size_check in_order
 all_sequential = (refl, (refl, (refl, tt)))
 
 all_linearizability : AllRecorded linearizability_model (linearizability_model.new (new_register (pos 65))) trace_3
-unfolding new_register new_linearizability linearizability_invoke linearizability_return notes_with notable notes_fit notes_fit_from notes_in recorded_number is_taken begun_of invoke_of return_of fresh is_pending flying_by flying_from find_flying done_by count_done all_below outcome_fits operation_fits operations_fit none_of flying_last counts_right shape_of family_of op_family ret_family family_number family_check op_belongs ret_belongs is_clear start_check shape_check size_check in_order
+unfolding new_register new_linearizability linearizability_invoke linearizability_return notes_with notable notes_fit notes_fit_from notes_in recorded_number begun_of invoke_of return_of fresh is_pending flying_by flying_from find_flying done_by count_done all_below outcome_fits operation_fits operations_fit none_of flying_last counts_right shape_of family_of op_family ret_family family_number family_check op_belongs ret_belongs start_check shape_check size_check in_order
 all_linearizability = (refl, (refl, (refl, tt)))
 
 -- It loads without refusal to the tester of trace 3's events.

@@ -1,17 +1,17 @@
 -- What loading a file comes to, by document 01: its header, and then its events, each recorded before the next is read.
-use Rattle.std.specs.Prelude.{ℕ, zero, suc, ◌+◌, Bool, true, false, List, [], ◌∷◌, length, drop, pos, eqb}
+use Rattle.std.specs.Prelude.{ℕ, zero, suc, ◌+◌, Bool, true, false, List, [], ◌∷◌, length, drop, pos, eqb, Result}
 use Rattle.history.specs.Events.{Event, Events}
 use Rattle.families.specs.Families.{families}
 use Rattle.families.specs.Objects.{new_register}
 use Rattle.families.specs.declared.Kind.{Kind}
 use Rattle.families.specs.declared.Object.{Object}
-use Rattle.stepping.specs.declared.recorded.Recorded.{Recorded}
 use Rattle.stepping.specs.EventSteps.{number_of as recorded_number}
 use Rattle.recording_meaning.specs.Models.{Model}
 use Rattle.recording_meaning.specs.Inputs.{as_input, as_inputs, give, feed}
 use Rattle.numbers.specs.FileRefusals.{number_of}
 use Rattle.numbers.specs.Reader.{Read, got, refused}
 use Rattle.format.specs.Format.{header, event}
+use Rattle.stepping.specs.declared.recorded.Reason.{Reason}
 
 -- What loading comes to: the number of the refusal, the place of the event that it befell, and the tester as it stands.
 pub record Load (M : Model) : Type 0 where
@@ -22,7 +22,7 @@ pub record Load (M : Model) : Type 0 where
 module _ (M : Model) where
   -- An event is recorded by its one call, and events one after the other.
 
-  abbrev pub record_event : M.Tester → Event families → Recorded × M.Tester
+  abbrev pub record_event : M.Tester → Event families → Result Unit Reason × M.Tester
   record_event t v = give M t (as_input v)
 
   abbrev pub record_events : M.Tester → Events families → M.Tester
@@ -32,7 +32,7 @@ module _ (M : Model) where
   load n p t = record { number = n; place = p; tester = t }
 
   -- After an event is recorded loading goes on behind it; a refusal stops it.
-  abbrev pub onward : (List ℕ → ℕ → M.Tester → Load M) → Bool → List ℕ → ℕ → ℕ → Recorded × M.Tester → Load M
+  abbrev pub onward : (List ℕ → ℕ → M.Tester → Load M) → Bool → List ℕ → ℕ → ℕ → Result Unit Reason × M.Tester → Load M
   onward go true s at used a = go (drop used s) (at + used) a.1
   onward go false s at used a = load (recorded_number a.0) at a.1
 

@@ -3,5 +3,6 @@
 
 mod feeding;
 pub mod linearizability;
+pub mod load;
 pub mod sequential_consistency;
 mod turns;

@@ -6,28 +6,18 @@ ghost use Rattle.corpus.specs.Load.{load_of};
 ghost use Rattle.corpus.specs.LoadAnswers.{as_sequential};
 
 use crate::linearizability;
+use crate::load::Loaded;
 use recording::sequential_consistency::SequentialConsistencyTester;
 
-// The number of the refusal, the place of the event that it befell, and the tester as it stands; number
-// and place are 0 where all is loaded.
-#[derive(Clone, Copy)]
-pub struct Loaded {
-    pub number: u8,
-    pub place: u32,
-    pub tester: SequentialConsistencyTester,
-}
-
 // Loads a file.
-pub fn load(file: &[u8]) -> Loaded
+pub fn load(file: &[u8]) -> Loaded<SequentialConsistencyTester>
     ensures { result ≡ as_sequential (load_of sequential_model file.now) }
 {
     let loaded = linearizability::load(file);
-    let noted = loaded.tester;
-    let history = noted.history;
-    let tester = SequentialConsistencyTester { history };
+    let history = loaded.tester.history;
     Loaded {
         number: loaded.number,
         place: loaded.place,
-        tester,
+        tester: SequentialConsistencyTester { history },
     }
 }

@@ -1,13 +1,11 @@
 -- 20 and 21 exactly: "a corpus file is at most 65,536 bytes", and "a file opens with the four bytes 52 41 57 31", whatever else it holds; 20 before 21.
 use Rattle.std.specs.Prelude.{ℕ, ◌<◌, ◌≤◌, ◌≡◌, refl, ◌↔◌, ◌⊎◌, Bool, true, false, List, ltb, length, take, drop}
-use Rattle.std.proofs.Common.{sym, ap, ◌∙◌, inl, inr, ⊎_elim, arith, lt-ltb, le-ltb, ltb-true, ltb-false}
+use Rattle.std.proofs.Common.{sym, ap, ◌∙◌, inl, inr, ⊎_elim, arith, lt-ltb, le-ltb, ltb-true, ltb-false, Result, Ok, Err}
 use Rattle.history.specs.Lists.{not_both}
 use Rattle.values.specs.Checks.{number_of as refusal_number}
 use Rattle.values.specs.declared.refusal.Refusal.{Refusal as ObjectRefusal}
 use Rattle.values.specs.declared.refusal.Refusal.TheVariants.{OtherFamily, NoRoom, StartTooDeep as TooDeep, OutOfShape as ShapeLost}
 use Rattle.families.specs.declared.Object.{Object}
-use Rattle.stepping.specs.declared.recorded.Recorded.{Recorded}
-use Rattle.stepping.specs.declared.recorded.Recorded.TheVariants.{Taken, Refused}
 use Rattle.stepping.specs.declared.recorded.Reason.TheVariants.{AlreadyInvalid, NoSuchThread, NotOwn, InFlight, NothingInFlight, Full, OutOfShape}
 use Rattle.stepping.specs.EventSteps.{reason_number, number_of as recorded_number}
 use Rattle.recording_meaning.specs.Models.{Model}
@@ -24,6 +22,7 @@ use Rattle.corpus.specs.Loaded.{Outcome, ended, unread, unrecorded}
 use Rattle.corpus.proofs.Loaded.{loaded, not_loaded}
 use Rattle.corpus_meaning.specs.FieldReasons.{from_fine, built_fine}
 use Rattle.corpus_meaning.specs.FileSizes.{Opened}
+use Rattle.stepping.specs.declared.recorded.Reason.{Reason}
 
 -- What the header comes to, by length and opening.
 
@@ -65,18 +64,18 @@ object_number NoRoom = omega arith
 object_number TooDeep = omega arith
 object_number ShapeLost = omega arith
 
-event_number : (r : Recorded) → recorded_number r < 20
+event_number : (r : Result Unit Reason) → recorded_number r < 20
 unfolding recorded_number reason_number
-event_number Taken = omega arith
-event_number (Refused AlreadyInvalid) = omega arith
-event_number (Refused NoSuchThread) = omega arith
-event_number (Refused (NotOwn why)) = object_number why
-event_number (Refused InFlight) = omega arith
-event_number (Refused NothingInFlight) = omega arith
-event_number (Refused Full) = omega arith
-event_number (Refused OutOfShape) = omega arith
+event_number (Ok tt) = omega arith
+event_number (Err AlreadyInvalid) = omega arith
+event_number (Err NoSuchThread) = omega arith
+event_number (Err (NotOwn why)) = object_number why
+event_number (Err InFlight) = omega arith
+event_number (Err NothingInFlight) = omega arith
+event_number (Err Full) = omega arith
+event_number (Err OutOfShape) = omega arith
 
-of_event : (n : ℕ) (r : Recorded) → n ≡ recorded_number r → n < 20
+of_event : (n : ℕ) (r : Result Unit Reason) → n ≡ recorded_number r → n < 20
 of_event n r e = rw e (event_number r)
 
 module _ (M : Model) (s : List ℕ) where

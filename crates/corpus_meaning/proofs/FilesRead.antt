@@ -1,10 +1,9 @@
 -- All the small files are read so, by computation.
 use Rattle.std.specs.Prelude.{◌≡◌, refl, List, [], ◌∷◌, map, pos}
-use Rattle.std.proofs.Common.{◌∙◌}
+use Rattle.std.proofs.Common.{◌∙◌, Some}
 use Rattle.values.specs.Value.{signed}
 use Rattle.values.specs.Coded.{maybe_from}
-use Rattle.values.specs.declared.value.Maybe.TheVariants.{Value}
-use Rattle.values.specs.Checks.{is_clear, in_order}
+use Rattle.values.specs.Checks.{in_order}
 use Rattle.objects.specs.Register.{register_op_form, register_op_from, register_ret_form, register_ret_from}
 use Rattle.objects.specs.WriteOnce.{once_op_form, once_op_from, once_ret_form, once_ret_from}
 use Rattle.objects.specs.declared.vec.VecOp.TheVariants.{Pop}
@@ -33,7 +32,7 @@ use Rattle.corpus_meaning.specs.Reading.{SmallFile, reading_of, AllRead}
 use Rattle.corpus_meaning.specs.SmallFiles.{file, small_files}
 
 sequential : AllRead sequential_model small_files
-unfolding signed maybe_from is_clear in_order register_op_form register_op_from register_ret_form register_ret_from once_op_form once_op_from once_ret_form once_ret_from
+unfolding signed maybe_from in_order register_op_form register_op_from register_ret_form register_ret_from once_op_form once_op_from once_ret_form once_ret_from
     stack_op_form stack_op_from stack_ret_form stack_ret_from depth_check low_check held_values family_of op_family ret_family family_number op_form op_from ret_form
     ret_from start_form start_from family_check op_belongs ret_belongs start_check shape_check size_check new_register new_once new_stack state_of fresh is_pending
     flying_by flying_from find_flying done_by count_done all_below outcome_fits operation_fits operations_fit none_of flying_last counts_right shape_of
@@ -53,7 +52,7 @@ pub files_read : AllRead sequential_model small_files × AllRead linearizability
 files_read = (sequential, alike small_files ∙ sequential)
 
 -- What a Pop sees of a stack that a file begins with: the value that is sent last.
-pub last_on_top : answers (reading_of sequential_model (load_of sequential_model (file (0x02 ∷ 0x03 ∷ 0x0A ∷ 0x0D ∷ 0x02 ∷ [])))).holds (OVec Pop) ≡ RVec (PopOk (Value (pos 1)))
+pub last_on_top : answers (reading_of sequential_model (load_of sequential_model (file (0x02 ∷ 0x03 ∷ 0x0A ∷ 0x0D ∷ 0x02 ∷ [])))).holds (OVec Pop) ≡ RVec (PopOk (Some (pos 1)))
 unfolding answers stack_answer state_of held_values signed start_form start_from depth_check low_check start_check shape_check size_check in_order new_stack fresh
     begun_of new_sequential from give ◌then◌ too_big number_from number value values_from values counted counted_start start_by object start same_bytes opens
     header load_from load_of

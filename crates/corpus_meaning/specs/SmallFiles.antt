@@ -1,13 +1,11 @@
 -- Small files, in hex, with what each is read as: for each sentence of document 01's "Corpus file" some that a reader who took it otherwise would
 -- read otherwise.
-use Rattle.std.specs.Prelude.{ℕ, List, [], ◌∷◌, ◌++◌, replicate, ℤ, pos, negsuc}
-use Rattle.values.specs.declared.value.Maybe.TheVariants.{Nothing, Value}
+use Rattle.std.specs.Prelude.{ℕ, List, [], ◌∷◌, ◌++◌, replicate, ℤ, pos, negsuc, Some, None}
 use Rattle.families.specs.declared.Kind.TheVariants.{Register, WORegister, Vec}
 use Rattle.families.specs.declared.Op.{Op}
 use Rattle.families.specs.declared.Op.TheVariants.{Register as ORegister, WORegister as OWORegister, Vec as OVec}
 use Rattle.families.specs.declared.Ret.{Ret}
 use Rattle.families.specs.declared.Ret.TheVariants.{Register as RRegister, WORegister as RWORegister, Vec as RVec}
-use Rattle.families.specs.declared.placing.Outcome.TheVariants.{Pending, Returned}
 use Rattle.objects.specs.declared.register.RegisterOp.TheVariants.{Write, Read}
 use Rattle.objects.specs.declared.register.RegisterRet.TheVariants.{WriteOk, ReadOk}
 use Rattle.objects.specs.declared.write_once_register.WORegisterOp.TheVariants.{Write as OnceWrite, Read as OnceRead}
@@ -21,10 +19,10 @@ use Rattle.corpus_meaning.specs.Reading.{SmallFile, starts, refuses, reads, stop
 -- An operation in flight, and one that has returned.
 
 abbrev flies : ℕ → Op → Operation
-flies t op = operation t op Pending
+flies t op = operation t op None
 
 abbrev done : ℕ → Op → Ret → Operation
-done t op ret = operation t op (Returned ret)
+done t op ret = operation t op (Some ret)
 
 -- Operations and returns, by the numbers that they have: 0 and 1 of each family, and 2 of the stack.
 
@@ -67,7 +65,7 @@ abbrev register : SmallFile
 register = value (0x00 ∷ 0x00 ∷ []) (pos 0)
 
 abbrev once : SmallFile
-once = starts (file (0x01 ∷ 0x00 ∷ [])) (WORegister Nothing) []
+once = starts (file (0x01 ∷ 0x00 ∷ [])) (WORegister None) []
 
 abbrev stack : SmallFile
 stack = starts (file (0x02 ∷ 0x00 ∷ [])) (Vec 0) []
@@ -117,7 +115,7 @@ abbrev padding : List SmallFile
 padding =
     value (0x80 ∷ 0x00 ∷ 0x80 ∷ 0x00 ∷ []) (pos 0)
     ∷ value (0x00 ∷ 0x8A ∷ 0x80 ∷ 0x80 ∷ 0x80 ∷ 0x00 ∷ []) (pos 5)
-    ∷ starts (file (0x81 ∷ 0x00 ∷ 0x81 ∷ 0x80 ∷ 0x00 ∷ 0x8A ∷ 0x00 ∷ [])) (WORegister (Value (pos 5))) (pos 5 ∷ [])
+    ∷ starts (file (0x81 ∷ 0x00 ∷ 0x81 ∷ 0x80 ∷ 0x00 ∷ 0x8A ∷ 0x00 ∷ [])) (WORegister (Some (pos 5))) (pos 5 ∷ [])
     ∷ reads register (0x80 ∷ 0x00 ∷ 0x80 ∷ 0x80 ∷ 0x00 ∷ 0x8A ∷ 0x00 ∷ 0x81 ∷ 0x00 ∷ 0x80 ∷ 0x00 ∷ []) (done 0 write (RRegister WriteOk) ∷ [])
     ∷ []
 
@@ -127,8 +125,8 @@ abbrev objects : List SmallFile
 objects =
     value (0x00 ∷ 0x0A ∷ []) (pos 5)
     ∷ once
-    ∷ starts (file (0x01 ∷ 0x01 ∷ 0x0A ∷ [])) (WORegister (Value (pos 5))) (pos 5 ∷ [])
-    ∷ starts (file (0x01 ∷ 0x01 ∷ 0x0D ∷ [])) (WORegister (Value minus_7)) (minus_7 ∷ [])
+    ∷ starts (file (0x01 ∷ 0x01 ∷ 0x0A ∷ [])) (WORegister (Some (pos 5))) (pos 5 ∷ [])
+    ∷ starts (file (0x01 ∷ 0x01 ∷ 0x0D ∷ [])) (WORegister (Some minus_7)) (minus_7 ∷ [])
     ∷ stack
     ∷ starts (file (0x02 ∷ 0x01 ∷ 0x0A ∷ [])) (Vec 1) (pos 5 ∷ [])
     ∷ starts (file (0x02 ∷ 0x03 ∷ 0x0A ∷ 0x0D ∷ 0x02 ∷ [])) (Vec 3) (pos 1 ∷ minus_7 ∷ pos 5 ∷ [])
@@ -159,8 +157,8 @@ write_onces =
     ∷ stops once (0x00 ∷ 0x02 ∷ []) [] 24 6
     ∷ reads once (0x00 ∷ 0x00 ∷ 0x0A ∷ 0x01 ∷ 0x00 ∷ []) (done 0 once_write (RWORegister OnceOk) ∷ [])
     ∷ reads once (0x00 ∷ 0x00 ∷ 0x0A ∷ 0x01 ∷ 0x01 ∷ []) (done 0 once_write (RWORegister OnceFail) ∷ [])
-    ∷ reads once (0x00 ∷ 0x01 ∷ 0x01 ∷ 0x02 ∷ 0x00 ∷ []) (done 0 once_read (RWORegister (OnceReadOk Nothing)) ∷ [])
-    ∷ reads once (0x00 ∷ 0x01 ∷ 0x01 ∷ 0x02 ∷ 0x01 ∷ 0x0D ∷ []) (done 0 once_read (RWORegister (OnceReadOk (Value minus_7))) ∷ [])
+    ∷ reads once (0x00 ∷ 0x01 ∷ 0x01 ∷ 0x02 ∷ 0x00 ∷ []) (done 0 once_read (RWORegister (OnceReadOk None)) ∷ [])
+    ∷ reads once (0x00 ∷ 0x01 ∷ 0x01 ∷ 0x02 ∷ 0x01 ∷ 0x0D ∷ []) (done 0 once_read (RWORegister (OnceReadOk (Some minus_7))) ∷ [])
     ∷ stops once (0x00 ∷ 0x01 ∷ 0x01 ∷ 0x02 ∷ 0x02 ∷ 0x0A ∷ []) (flies 0 once_read ∷ []) 24 8
     ∷ stops once (0x00 ∷ 0x01 ∷ 0x01 ∷ 0x03 ∷ []) (flies 0 once_read ∷ []) 24 8
     ∷ []
@@ -173,8 +171,8 @@ stacks =
     ∷ reads stack (0x00 ∷ 0x02 ∷ []) (flies 0 len ∷ [])
     ∷ stops stack (0x00 ∷ 0x03 ∷ []) [] 24 6
     ∷ reads stack (0x00 ∷ 0x00 ∷ 0x0A ∷ 0x01 ∷ 0x00 ∷ []) (done 0 push (RVec PushOk) ∷ [])
-    ∷ reads stack (0x00 ∷ 0x01 ∷ 0x01 ∷ 0x01 ∷ 0x00 ∷ []) (done 0 pop (RVec (PopOk Nothing)) ∷ [])
-    ∷ reads stack (0x00 ∷ 0x01 ∷ 0x01 ∷ 0x01 ∷ 0x01 ∷ 0x0D ∷ []) (done 0 pop (RVec (PopOk (Value minus_7))) ∷ [])
+    ∷ reads stack (0x00 ∷ 0x01 ∷ 0x01 ∷ 0x01 ∷ 0x00 ∷ []) (done 0 pop (RVec (PopOk None)) ∷ [])
+    ∷ reads stack (0x00 ∷ 0x01 ∷ 0x01 ∷ 0x01 ∷ 0x01 ∷ 0x0D ∷ []) (done 0 pop (RVec (PopOk (Some minus_7))) ∷ [])
     ∷ stops stack (0x00 ∷ 0x01 ∷ 0x01 ∷ 0x01 ∷ 0x02 ∷ 0x0A ∷ []) (flies 0 pop ∷ []) 24 8
     ∷ reads stack (0x00 ∷ 0x02 ∷ 0x01 ∷ 0x02 ∷ 0x03 ∷ []) (done 0 len (RVec (LenOk 3)) ∷ [])
     ∷ reads stack (0x00 ∷ 0x02 ∷ 0x01 ∷ 0x02 ∷ 0xFF ∷ 0xFF ∷ 0xFF ∷ 0xFF ∷ 0x0F ∷ []) (done 0 len (RVec (LenOk 4294967295)) ∷ [])
@@ -235,7 +233,7 @@ stopped =
     ∷ breaks register (0x00 ∷ 0x01 ∷ 0x00 ∷ 0x01 ∷ 0x10 ∷ 0x02 ∷ []) (flies 0 read ∷ []) 4 8
     ∷ breaks register (0x01 ∷ 0x00 ∷ 0x00 ∷ 0x01 ∷ []) [] 5 6
     ∷ stops register (0x80 ∷ 0x00 ∷ 0x81 ∷ 0x80 ∷ 0x00 ∷ 0x10 ∷ 0x01 ∷ []) (flies 0 read ∷ []) 2 11
-    ∷ stops (starts (file (0x02 ∷ 0x02 ∷ 0x0A ∷ 0x0D ∷ [])) (Vec 2) (minus_7 ∷ pos 5 ∷ [])) (0x00 ∷ 0x01 ∷ 0x01 ∷ 0x01 ∷ 0x01 ∷ 0x0D ∷ 0x10 ∷ 0x01 ∷ []) (done 0 pop (RVec (PopOk (Value minus_7))) ∷ []) 2 14
+    ∷ stops (starts (file (0x02 ∷ 0x02 ∷ 0x0A ∷ 0x0D ∷ [])) (Vec 2) (minus_7 ∷ pos 5 ∷ [])) (0x00 ∷ 0x01 ∷ 0x01 ∷ 0x01 ∷ 0x01 ∷ 0x0D ∷ 0x10 ∷ 0x01 ∷ []) (done 0 pop (RVec (PopOk (Some minus_7))) ∷ []) 2 14
     ∷ []
 
 -- The list.

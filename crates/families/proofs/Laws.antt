@@ -1,14 +1,29 @@
--- Laws that the proofs of several functions cite.
-use Rattle.std.proofs.Common.{◌≡◌, refl, arith, ne_eqb, false}
+-- Laws of families, which their numbers tell apart.
+use Rattle.std.proofs.Common.{◌≡◌, refl, arith, eqb, ne_eqb, false}
+use denote.Enum.Bare.{sameb}
 use Rattle.objects.specs.declared.register.RegisterRet.{RegisterRet}
 use Rattle.objects.specs.declared.write_once_register.WORegisterRet.{WORegisterRet}
 use Rattle.objects.specs.declared.vec.VecRet.{VecRet}
-use Rattle.families.specs.Family.{ret_family, family_number}
+use Rattle.families.specs.contracts.family.Family.{the_type}
+use Rattle.families.specs.Family.{Family, registers, write_onces, stacks, ret_family, family_number}
 use Rattle.families.specs.Families.{same_ret}
 use Rattle.families.specs.declared.Ret.{Ret}
 use Rattle.families.specs.declared.Ret.TheVariants.{Register, WORegister, Vec}
 
--- a return in an arm for all other families is not the same as one of that family
+-- The derived equality of families compares their numbers.
+pub same_families : (f g : Family) → sameb the_type f g ≡ eqb (family_number f) (family_number g)
+unfolding family_number
+same_families registers registers = refl
+same_families registers write_onces = refl
+same_families registers stacks = refl
+same_families write_onces registers = refl
+same_families write_onces write_onces = refl
+same_families write_onces stacks = refl
+same_families stacks registers = refl
+same_families stacks write_onces = refl
+same_families stacks stacks = refl
+
+-- A return of another family is not the same, and one that is none of a family has another number.
 
 pub other_family : (a r : Ret) → (family_number (ret_family a) ≡ family_number (ret_family r) → ⊥) → false ≡ same_ret a r
 unfolding same_ret

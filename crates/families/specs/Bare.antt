@@ -1,10 +1,10 @@
 -- What a bare step asks of the families: an operation that is not refused has its place, leaves an object in shape, and its own answer is not refused.
-use Rattle.std.specs.Prelude.{ℕ, suc, ◌+◌, ◌-◌, ◌≤◌, ◌≡◌, refl, Bool, true, false, List, ◌↔◌, ◌≢◌, ℤ, ltb, eqb}
-use Rattle.std.proofs.Common.{sym, ap, ◌∙◌, subst, ltb-true, arith}
-use Rattle.std.proofs.lemmas.Bool.{eqb-false}
+use Rattle.std.specs.Prelude.{ℕ, suc, ◌+◌, ◌≤◌, ◌≡◌, refl, Bool, true, false, List, ◌↔◌, ℤ, Option, Ok}
+use Rattle.std.proofs.Common.{sym, ap, ◌∙◌, subst, arith}
+use Rattle.std.proofs.lemmas.Grind.{common_steps}
 use Rattle.values.specs.Value.{pick}
 use Rattle.values.specs.Sizes.{room}
-use Rattle.objects.specs.Stack.{pushes, pushed, pops, popped, stack_room, storage_answer, frees, depth_after}
+use Rattle.objects.specs.Stack.{pushes, pushed, pops, popped, stack_room, storage_answer, depth_after}
 use Rattle.families.specs.Family.{Family, stacks, family_of, op_family, ret_family}
 use Rattle.families.specs.Families.{same_ret}
 use Rattle.families.specs.Same.{returns}
@@ -18,24 +18,21 @@ use Rattle.families.specs.declared.Op.{Op}
 use Rattle.families.specs.declared.Op.TheVariants.{Register as ORegister, WORegister as OWORegister, Vec as OVec}
 use Rattle.families.specs.declared.Ret.{Ret}
 use Rattle.families.specs.declared.Ret.TheVariants.{Register as RRegister, WORegister as RWORegister, Vec as RVec}
-use Rattle.values.specs.declared.value.Maybe.{Maybe}
 use Rattle.objects.specs.declared.vec.VecOp.{VecOp}
 use Rattle.objects.specs.declared.vec.VecOp.TheVariants.{Push, Pop, Len}
 use Rattle.objects.specs.declared.vec.VecRet.{VecRet}
 use Rattle.objects.specs.declared.vec.VecRet.TheVariants.{PushOk, PopOk, LenOk}
 use Rattle.values.specs.declared.held.Held.{Held}
-use Rattle.values.specs.declared.refusal.Refusal.TheVariants.{NoRoom}
-use Rattle.values.specs.declared.refusal.Check.TheVariants.{Clear, Refused}
 
 -- in shape is room for no operation more
 
-pub shape_room : (k : Kind) → shape_check k ≡ Clear → Room k (held_of k) 0
+pub shape_room : (k : Kind) → shape_check k ≡ Ok tt → Room k (held_of k) 0
 unfolding shape_check family_of held_of RoomIn
 shape_room (Register v) c = tt
 shape_room (WORegister m) c = tt
 shape_room (Vec d) c = omega (arith, (depth_clear d).0 c)
 
-kind_shape : (k : Kind) (h : Held) → Room k h 0 → shape_check (kind_of k h) ≡ Clear
+kind_shape : (k : Kind) (h : Held) → Room k h 0 → shape_check (kind_of k h) ≡ Ok tt
 unfolding shape_check family_of kind_of RoomIn
 kind_shape (Register v) h r = refl
 kind_shape (WORegister m) h r = refl
@@ -43,21 +40,17 @@ kind_shape (Vec d) h r = (depth_clear h.height).1 (omega arith)
 
 -- an operation that is not refused has its place
 
-stack_place : (d : ℕ) (p : VecOp) → d ≤ room → stack_room d p ≡ Clear → HasRoom d p
+stack_place : (d : ℕ) (p : VecOp) → d ≤ room → stack_room d p ≡ Ok tt → HasRoom d p
 unfolding stack_room pushes
-stack_place d (Push v) l c = go (eqb d room) refl c
-  where
-    go : (b : Bool) → eqb d room ≡ b → pick b (Refused NoRoom) Clear ≡ Clear → HasRoom d (Push v)
-    go true e c = absurd (let z : ◌≡◌ {A = ℕ} 0 1 = cc in omega arith)
-    go false e c = let n : d ≢ room = eqb-false d room e in omega arith
+stack_place d (Push v) l c = grind (arith, common_steps)
 stack_place d Pop l c = l
 stack_place d Len l c = tt
 
-pub clear_fits : (k : Kind) (op : Op) → shape_check k ≡ Clear → op_belongs k op ≡ Clear → room_check (held_of k) op ≡ Clear → Fits (held_of k) op
+pub clear_fits : (k : Kind) (op : Op) → shape_check k ≡ Ok tt → op_belongs k op ≡ Ok tt → room_check (held_of k) op ≡ Ok tt → Fits (held_of k) op
 unfolding op_family room_check RoomIn
 clear_fits k op s b c = go op ((own_op k op).0 b) c
   where
-    go : (op : Op) → op_family op ≡ family_of k → room_check (held_of k) op ≡ Clear → Fits (held_of k) op
+    go : (op : Op) → op_family op ≡ family_of k → room_check (held_of k) op ≡ Ok tt → Fits (held_of k) op
     go (ORegister p) e c = tt
     go (OWORegister p) e c = tt
     go (OVec p) e c =
@@ -68,19 +61,11 @@ clear_fits k op s b c = go op ((own_op k op).0 b) c
 
 depth_kept : (d : ℕ) (p : VecOp) → d + 0 ≤ room → depth_after d p + 0 ≤ room
 unfolding depth_after
-depth_kept d (Push v) h = go (ltb d room) refl
-  where
-    go : (b : Bool) → ltb d room ≡ b → pick b (d + 1) d + 0 ≤ room
-    go true e = omega (arith, ltb-true d room e)
-    go false e = h
-depth_kept d Pop h = go (frees d)
-  where
-    go : (b : Bool) → pick b (d - 1) d + 0 ≤ room
-    go true = omega arith
-    go false = h
+depth_kept d (Push v) h = grind (arith, common_steps)
+depth_kept d Pop h = grind (arith, common_steps)
 depth_kept d Len h = h
 
-pub kept_shape : (k : Kind) (op : Op) → shape_check k ≡ Clear → op_belongs k op ≡ Clear → shape_check (kind_of k (held_after (held_of k) op)) ≡ Clear
+pub kept_shape : (k : Kind) (op : Op) → shape_check k ≡ Ok tt → op_belongs k op ≡ Ok tt → shape_check (kind_of k (held_after (held_of k) op)) ≡ Ok tt
 unfolding op_family held_after RoomIn
 kept_shape k op s b = kind_shape k (held_after (held_of k) op) (go (family_of k) op ((own_op k op).0 b) (shape_room k s))
   where
@@ -99,16 +84,16 @@ answer_family items h (ORegister p) = refl
 answer_family items h (OWORegister p) = refl
 answer_family items h (OVec p) = refl
 
-pub answer_belongs : (k : Kind) (items : List ℤ) (h : Held) (op : Op) → op_belongs k op ≡ Clear → ret_belongs k (answer_of items h op) ≡ Clear
+pub answer_belongs : (k : Kind) (items : List ℤ) (h : Held) (op : Op) → op_belongs k op ≡ Ok tt → ret_belongs k (answer_of items h op) ≡ Ok tt
 answer_belongs k items h op b = (own_ret k (answer_of items h op)).1 (answer_family items h op ∙ (own_op k op).0 b)
 
-stack_untaken : (items : List ℤ) (d : ℕ) (p : VecOp) → pushed (storage_answer items d p) ≡ false → stack_room d p ≡ Clear
+stack_untaken : (items : List ℤ) (d : ℕ) (p : VecOp) → pushed (storage_answer items d p) ≡ false → stack_room d p ≡ Ok tt
 unfolding pushed storage_answer stack_room pushes
-stack_untaken items d (Push v) h = absurd (let z : ◌≡◌ {A = ℕ} 0 1 = cc in omega arith)
+stack_untaken items d (Push v) h = absurd cc
 stack_untaken items d Pop h = refl
 stack_untaken items d Len h = refl
 
-pub answer_untaken : (items : List ℤ) (h : Held) (op : Op) → took_room (answer_of items h op) ≡ false → room_check h op ≡ Clear
+pub answer_untaken : (items : List ℤ) (h : Held) (op : Op) → took_room (answer_of items h op) ≡ false → room_check h op ≡ Ok tt
 unfolding took_room answer_of room_check
 answer_untaken items h (ORegister p) e = refl
 answer_untaken items h (OWORegister p) e = refl
@@ -122,56 +107,51 @@ kind_room (Register v) h n r = tt
 kind_room (WORegister m) h n r = tt
 kind_room (Vec d) h n r = r
 
-pub left_room : (k : Kind) (op : Op) (n : ℕ) → op_belongs k op ≡ Clear → Room k (held_of k) (suc n)
+pub left_room : (k : Kind) (op : Op) (n : ℕ) → op_belongs k op ≡ Ok tt → Room k (held_of k) (suc n)
     → Room (kind_of k (held_after (held_of k) op)) (held_of (kind_of k (held_after (held_of k) op))) n
 left_room k op n b r = kind_room k (held_after (held_of k) op) n (step_room k (held_of k) op n b r)
 
 -- an operation that is done though its return is wrong takes no room
 
-stack_pops : (d : ℕ) (p : VecOp) → pops p ≡ true → stack_room d p ≡ Clear
+stack_pops : (d : ℕ) (p : VecOp) → pops p ≡ true → stack_room d p ≡ Ok tt
 unfolding pops stack_room pushes
-stack_pops d (Push v) h = absurd (let z : ◌≡◌ {A = ℕ} 0 1 = cc in omega arith)
+stack_pops d (Push v) h = absurd cc
 stack_pops d Pop h = refl
 stack_pops d Len h = refl
 
-taker_room : (h : Held) (op : Op) → takes op ≡ true → room_check h op ≡ Clear
+taker_room : (h : Held) (op : Op) → takes op ≡ true → room_check h op ≡ Ok tt
 unfolding takes room_check
 taker_room h (ORegister p) e = refl
 taker_room h (OWORegister p) e = refl
 taker_room h (OVec p) e = stack_pops h.height p e
 
-pub wrong_room : (h : Held) (op : Op) (ret : Ret) → leaves_wrong op ret ≡ true → room_check h op ≡ Clear
+pub wrong_room : (h : Held) (op : Op) (ret : Ret) → leaves_wrong op ret ≡ true → room_check h op ≡ Ok tt
 unfolding leaves_wrong
-wrong_room h op ret e = go (takes op) refl e
-  where
-    go : (b : Bool) → takes op ≡ b → pick b (taken ret) false ≡ true → room_check h op ≡ Clear
-    go true t e = taker_room h op t
-    go false t e = absurd (let z : ◌≡◌ {A = ℕ} 0 1 = cc in omega arith)
+wrong_room h op ret e = taker_room h op (grind arith)
 
 -- An operation is done though its return is wrong exactly if it is a Pop with a PopOk.
 
 unpopped : (b : Bool) → pick b false false ≡ true → ⊥
-unpopped true e = let z : ◌≡◌ {A = ℕ} 0 1 = cc in omega arith
-unpopped false e = let z : ◌≡◌ {A = ℕ} 0 1 = cc in omega arith
+unpopped b e = grind arith
 
-stack_wrong : (p : VecOp) (q : VecRet) → pick (pops p) (popped q) false ≡ true ↔ (p ≡ Pop) × ((m : Maybe) × (q ≡ PopOk m))
+stack_wrong : (p : VecOp) (q : VecRet) → pick (pops p) (popped q) false ≡ true ↔ (p ≡ Pop) × ((m : Option ℤ) × (q ≡ PopOk m))
 unfolding pops popped
 stack_wrong Pop (PopOk m) = (λ e. (refl, (m, refl)), λ x. refl)
-stack_wrong Pop PushOk = (λ e. absurd (let z : ◌≡◌ {A = ℕ} 0 1 = cc in omega arith), λ x. absurd (let z : ◌≡◌ {A = ℕ} 0 1 = cc in omega arith))
-stack_wrong Pop (LenOk n) = (λ e. absurd (let z : ◌≡◌ {A = ℕ} 0 1 = cc in omega arith), λ x. absurd (let z : ◌≡◌ {A = ℕ} 0 1 = cc in omega arith))
-stack_wrong (Push v) q = (λ e. absurd (let z : ◌≡◌ {A = ℕ} 0 1 = cc in omega arith), λ x. absurd (let z : ◌≡◌ {A = ℕ} 0 1 = cc in omega arith))
-stack_wrong Len q = (λ e. absurd (let z : ◌≡◌ {A = ℕ} 0 1 = cc in omega arith), λ x. absurd (let z : ◌≡◌ {A = ℕ} 0 1 = cc in omega arith))
+stack_wrong Pop PushOk = (λ e. absurd cc, λ x. absurd cc)
+stack_wrong Pop (LenOk n) = (λ e. absurd cc, λ x. absurd cc)
+stack_wrong (Push v) q = (λ e. absurd cc, λ x. absurd cc)
+stack_wrong Len q = (λ e. absurd cc, λ x. absurd cc)
 
-pub wrong_exactly : (op : Op) (ret : Ret) → leaves_wrong op ret ≡ true ↔ (op ≡ OVec Pop) × ((m : Maybe) × (ret ≡ RVec (PopOk m)))
+pub wrong_exactly : (op : Op) (ret : Ret) → leaves_wrong op ret ≡ true ↔ (op ≡ OVec Pop) × ((m : Option ℤ) × (ret ≡ RVec (PopOk m)))
 unfolding leaves_wrong takes taken
-wrong_exactly (ORegister p) ret = (λ e. absurd (let z : ◌≡◌ {A = ℕ} 0 1 = cc in omega arith), λ x. absurd (let z : ◌≡◌ {A = ℕ} 0 1 = cc in omega arith))
-wrong_exactly (OWORegister p) ret = (λ e. absurd (let z : ◌≡◌ {A = ℕ} 0 1 = cc in omega arith), λ x. absurd (let z : ◌≡◌ {A = ℕ} 0 1 = cc in omega arith))
+wrong_exactly (ORegister p) ret = (λ e. absurd cc, λ x. absurd cc)
+wrong_exactly (OWORegister p) ret = (λ e. absurd cc, λ x. absurd cc)
 wrong_exactly (OVec p) (RVec q) = (
   λ e. let x = (stack_wrong p q).0 e in (ap OVec x.0, (x.1.0, ap RVec x.1.1)),
   λ x. (stack_wrong p q).1 (cc, (x.1.0, cc)),
 )
-wrong_exactly (OVec p) (RRegister q) = (λ e. absurd (unpopped (pops p) e), λ x. absurd (let z : ◌≡◌ {A = ℕ} 0 1 = cc in omega arith))
-wrong_exactly (OVec p) (RWORegister q) = (λ e. absurd (unpopped (pops p) e), λ x. absurd (let z : ◌≡◌ {A = ℕ} 0 1 = cc in omega arith))
+wrong_exactly (OVec p) (RRegister q) = (λ e. absurd (unpopped (pops p) e), λ x. absurd cc)
+wrong_exactly (OVec p) (RWORegister q) = (λ e. absurd (unpopped (pops p) e), λ x. absurd cc)
 
 -- in these families a return is right exactly if it is the object's answer
 
@@ -188,6 +168,6 @@ right_answered items h op ret = (
 )
 
 -- and a right return is one of the object's own
-pub right_belongs : (k : Kind) (items : List ℤ) (h : Held) (op : Op) (ret : Ret) → op_belongs k op ≡ Clear → right_of items h op ret ≡ true
-    → ret_belongs k ret ≡ Clear
+pub right_belongs : (k : Kind) (items : List ℤ) (h : Held) (op : Op) (ret : Ret) → op_belongs k op ≡ Ok tt → right_of items h op ret ≡ true
+    → ret_belongs k ret ≡ Ok tt
 right_belongs k items h op ret b e = ap (ret_belongs k) (sym ((right_answered items h op ret).0 e)) ∙ answer_belongs k items h op b

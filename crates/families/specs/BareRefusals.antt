@@ -1,5 +1,5 @@
 -- Document 01's reasons to refuse a bare step, as conditions, and that each check refuses exactly under its own.
-use Rattle.std.specs.Prelude.{ℕ, ◌<◌, ◌≡◌, refl, Bool, true, false, ◌↔◌, ◌≢◌, ◌⊎◌, ℤ, ltb, eqb}
+use Rattle.std.specs.Prelude.{ℕ, ◌<◌, ◌≡◌, refl, Bool, true, false, ◌↔◌, ◌≢◌, ◌⊎◌, ℤ, ltb, eqb, Result, Ok, Err}
 use Rattle.std.proofs.Common.{sym, ap, subst, inl, inr, ltb-true, ltb-false, eqb-true, eq-eqb, arith}
 use Rattle.std.proofs.lemmas.Bool.{eqb-false}
 use Rattle.values.specs.Value.{pick}
@@ -21,8 +21,6 @@ use Rattle.objects.specs.declared.vec.VecRet.{VecRet}
 use Rattle.objects.specs.declared.vec.VecRet.TheVariants.{PushOk, PopOk, LenOk}
 use Rattle.values.specs.declared.refusal.Refusal.{Refusal}
 use Rattle.values.specs.declared.refusal.Refusal.TheVariants.{OtherFamily, NoRoom, StartTooDeep, OutOfShape}
-use Rattle.values.specs.declared.refusal.Check.{Check}
-use Rattle.values.specs.declared.refusal.Check.TheVariants.{Clear, Refused}
 
 -- 9: a depth over 96.
 abbrev pub TooDeep : Kind → Type 0
@@ -57,8 +55,8 @@ abbrev pub CrowdedStep : Kind → Op → Ret → Type 0
 CrowdedStep k op ret = Full k × WantsRoom op × TookRoom ret
 
 -- A check refuses with r exactly if P holds, and with nothing else.
-abbrev pub Refuses : Refusal → Type 0 → Check → Type 0
-Refuses r P c = ((c ≡ Refused r) × P) ⊎ ((c ≡ Clear) × (¬ P))
+abbrev pub Refuses : Refusal → Type 0 → Result Unit Refusal → Type 0
+Refuses r P c = ((c ≡ Err r) × P) ⊎ ((c ≡ Ok tt) × (¬ P))
 
 -- the depth
 
@@ -66,31 +64,31 @@ stack_deep : (d : ℕ) → Refuses OutOfShape (TooDeep (Vec d)) (depth_check d)
 unfolding depth_check
 stack_deep d = go (ltb room d) refl
   where
-    go : (b : Bool) → ltb room d ≡ b → Refuses OutOfShape (TooDeep (Vec d)) (pick b (Refused OutOfShape) Clear)
+    go : (b : Bool) → ltb room d ≡ b → Refuses OutOfShape (TooDeep (Vec d)) (pick b (Err OutOfShape) (Ok tt))
     go true e = inl (refl, (d, refl, ltb-true room d e))
     go false e = inr (refl, λ x. let q : d ≡ x.0 = cc in omega (arith, ltb-false room d e))
 
 pub deep_refused : (k : Kind) → Refuses OutOfShape (TooDeep k) (shape_check k)
 unfolding shape_check
-deep_refused (Register v) = inr (refl, λ x. let z : ◌≡◌ {A = ℕ} 0 1 = cc in omega arith)
-deep_refused (WORegister m) = inr (refl, λ x. let z : ◌≡◌ {A = ℕ} 0 1 = cc in omega arith)
+deep_refused (Register v) = inr (refl, λ x. cc)
+deep_refused (WORegister m) = inr (refl, λ x. cc)
 deep_refused (Vec d) = stack_deep d
 
-pub in_shape_exactly : (k : Kind) → shape_check k ≡ Clear ↔ (¬ TooDeep k)
+pub in_shape_exactly : (k : Kind) → shape_check k ≡ Ok tt ↔ (¬ TooDeep k)
 in_shape_exactly k = go (deep_refused k)
   where
-    go : Refuses OutOfShape (TooDeep k) (shape_check k) → shape_check k ≡ Clear ↔ (¬ TooDeep k)
-    go (inl x) = (λ e. absurd (let z : ◌≡◌ {A = ℕ} 0 1 = cc in omega arith), λ n. absurd (n x.1))
+    go : Refuses OutOfShape (TooDeep k) (shape_check k) → shape_check k ≡ Ok tt ↔ (¬ TooDeep k)
+    go (inl x) = (λ e. absurd cc, λ n. absurd (n x.1))
     go (inr x) = (λ e. x.1, λ n. x.0)
 
 -- the family
 
-other_refused : (f g : Family) (c : Check) → BelongsWhen f g c → Refuses OtherFamily (f ≢ g) c
-other_refused f g Clear e = inr (refl, λ n. n e)
-other_refused f g (Refused OtherFamily) n = inl (refl, n)
-other_refused f g (Refused NoRoom) w = absurd w
-other_refused f g (Refused StartTooDeep) w = absurd w
-other_refused f g (Refused OutOfShape) w = absurd w
+other_refused : (f g : Family) (c : Result Unit Refusal) → BelongsWhen f g c → Refuses OtherFamily (f ≢ g) c
+other_refused f g (Ok tt) e = inr (refl, λ n. n e)
+other_refused f g (Err OtherFamily) n = inl (refl, n)
+other_refused f g (Err NoRoom) w = absurd w
+other_refused f g (Err StartTooDeep) w = absurd w
+other_refused f g (Err OutOfShape) w = absurd w
 
 pub op_refused : (k : Kind) (op : Op) → Refuses OtherFamily (OtherOp k op) (op_belongs k op)
 op_refused k op = other_refused (op_family op) (family_of k) (op_belongs k op) ((op_exactly k op (op_belongs k op)).0 refl)
@@ -102,31 +100,31 @@ ret_refused k ret = other_refused (ret_family ret) (family_of k) (ret_belongs k 
 
 pub full_exactly : (k : Kind) → is_full k ≡ true ↔ Full k
 unfolding is_full
-full_exactly (Register v) = (λ e. absurd (let z : ◌≡◌ {A = ℕ} 0 1 = cc in omega arith), λ e. absurd (let z : ◌≡◌ {A = ℕ} 0 1 = cc in omega arith))
-full_exactly (WORegister m) = (λ e. absurd (let z : ◌≡◌ {A = ℕ} 0 1 = cc in omega arith), λ e. absurd (let z : ◌≡◌ {A = ℕ} 0 1 = cc in omega arith))
+full_exactly (Register v) = (λ e. absurd cc, λ e. absurd cc)
+full_exactly (WORegister m) = (λ e. absurd cc, λ e. absurd cc)
 full_exactly (Vec d) = (λ e. ap Vec (eqb-true d room e), λ e. eq-eqb d room cc)
 
 stack_full : (d : ℕ) (p : VecOp) → Refuses NoRoom (Crowded (Vec d) (OVec p)) (stack_room d p)
 unfolding stack_room pushes
 stack_full d (Push v) = go (eqb d room) refl
   where
-    go : (b : Bool) → eqb d room ≡ b → Refuses NoRoom (Crowded (Vec d) (OVec (Push v))) (pick b (Refused NoRoom) Clear)
+    go : (b : Bool) → eqb d room ≡ b → Refuses NoRoom (Crowded (Vec d) (OVec (Push v))) (pick b (Err NoRoom) (Ok tt))
     go true e = inl (refl, (ap Vec (eqb-true d room e), (v, refl)))
     go false e = inr (refl, λ x. eqb-false d room e (let q : Vec d ≡ Vec room = x.0 in cc))
-stack_full d Pop = inr (refl, λ x. let z : ◌≡◌ {A = ℕ} 0 1 = cc in omega arith)
-stack_full d Len = inr (refl, λ x. let z : ◌≡◌ {A = ℕ} 0 1 = cc in omega arith)
+stack_full d Pop = inr (refl, λ x. cc)
+stack_full d Len = inr (refl, λ x. cc)
 
 -- an object to which a stack's operation belongs is a stack
 stack_kind : (k : Kind) → stacks ≡ family_of k → (d : ℕ) × (k ≡ Vec d)
 unfolding family_of
-stack_kind (Register v) e = absurd (let z : ◌≡◌ {A = ℕ} 0 1 = cc in omega arith)
-stack_kind (WORegister m) e = absurd (let z : ◌≡◌ {A = ℕ} 0 1 = cc in omega arith)
+stack_kind (Register v) e = absurd cc
+stack_kind (WORegister m) e = absurd cc
 stack_kind (Vec d) e = (d, refl)
 
 own_room : (k : Kind) (op : Op) → op_family op ≡ family_of k → Refuses NoRoom (Crowded k op) (room_check (held_of k) op)
 unfolding room_check op_family held_of
-own_room k (ORegister p) e = inr (refl, λ x. let z : ◌≡◌ {A = ℕ} 0 1 = cc in omega arith)
-own_room k (OWORegister p) e = inr (refl, λ x. let z : ◌≡◌ {A = ℕ} 0 1 = cc in omega arith)
+own_room k (ORegister p) e = inr (refl, λ x. cc)
+own_room k (OWORegister p) e = inr (refl, λ x. cc)
 own_room k (OVec p) e =
     let s = stack_kind k e in
     subst (λ (l : Kind). Refuses NoRoom (Crowded l (OVec p)) (room_check (held_of l) (OVec p))) (sym s.1) (stack_full s.0 p)
@@ -136,7 +134,7 @@ own_op_if k op n = go (op_refused k op)
   where
     go : Refuses OtherFamily (OtherOp k op) (op_belongs k op) → op_family op ≡ family_of k
     go (inl x) = absurd (n x.1)
-    go (inr x) = (op_exactly k op Clear).0 x.0
+    go (inr x) = (op_exactly k op (Ok tt)).0 x.0
 
 pub room_refused : (k : Kind) (op : Op) → ¬ OtherOp k op → Refuses NoRoom (Crowded k op) (room_check (held_of k) op)
 room_refused k op n = own_room k op (own_op_if k op n)
@@ -145,13 +143,13 @@ room_refused k op n = own_room k op (own_op_if k op n)
 stack_took : (q : VecRet) → pushed q ≡ true ↔ TookRoom (RVec q)
 unfolding pushed
 stack_took PushOk = (λ e. refl, λ e. refl)
-stack_took (PopOk m) = (λ e. absurd (let z : ◌≡◌ {A = ℕ} 0 1 = cc in omega arith), λ e. absurd (let z : ◌≡◌ {A = ℕ} 0 1 = cc in omega arith))
-stack_took (LenOk n) = (λ e. absurd (let z : ◌≡◌ {A = ℕ} 0 1 = cc in omega arith), λ e. absurd (let z : ◌≡◌ {A = ℕ} 0 1 = cc in omega arith))
+stack_took (PopOk m) = (λ e. absurd cc, λ e. absurd cc)
+stack_took (LenOk n) = (λ e. absurd cc, λ e. absurd cc)
 
 pub took_exactly : (ret : Ret) → took_room ret ≡ true ↔ TookRoom ret
 unfolding took_room
-took_exactly (RRegister q) = (λ e. absurd (let z : ◌≡◌ {A = ℕ} 0 1 = cc in omega arith), λ e. absurd (let z : ◌≡◌ {A = ℕ} 0 1 = cc in omega arith))
-took_exactly (RWORegister q) = (λ e. absurd (let z : ◌≡◌ {A = ℕ} 0 1 = cc in omega arith), λ e. absurd (let z : ◌≡◌ {A = ℕ} 0 1 = cc in omega arith))
+took_exactly (RRegister q) = (λ e. absurd cc, λ e. absurd cc)
+took_exactly (RWORegister q) = (λ e. absurd cc, λ e. absurd cc)
 took_exactly (RVec q) = stack_took q
 
 pub step_room_refused : (k : Kind) (op : Op) (ret : Ret) → ¬ OtherOp k op
@@ -160,7 +158,7 @@ unfolding step_room
 step_room_refused k op ret n = go (took_room ret) refl (room_refused k op n)
   where
     go : (b : Bool) → took_room ret ≡ b → Refuses NoRoom (Crowded k op) (room_check (held_of k) op)
-        → Refuses NoRoom (CrowdedStep k op ret) (pick b (room_check (held_of k) op) Clear)
+        → Refuses NoRoom (CrowdedStep k op ret) (pick b (room_check (held_of k) op) (Ok tt))
     go true t (inl x) = inl (x.0, (x.1.0, x.1.1, (took_exactly ret).0 t))
     go true t (inr x) = inr (x.0, λ y. x.1 (y.0, y.1))
-    go false t x = inr (refl, λ y. let z : took_room ret ≡ true = (took_exactly ret).1 y.2 in let w : ◌≡◌ {A = ℕ} 0 1 = cc in omega arith)
+    go false t x = inr (refl, λ y. let z : took_room ret ≡ true = (took_exactly ret).1 y.2 in cc)

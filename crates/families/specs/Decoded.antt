@@ -1,5 +1,5 @@
 -- What the table of numbers makes: an object that a tester starts with, and operations and returns of the family that they are read in.
-use Rattle.std.specs.Prelude.{◌≤◌, ◌≡◌, refl, Bool, true, false, List, ℤ, eqb}
+use Rattle.std.specs.Prelude.{◌≤◌, ◌≡◌, refl, Bool, true, false, List, ℤ, eqb, Some, None, Ok}
 use Rattle.std.proofs.Common.{ap, arith, eq-eqb, le-ltb}
 use Rattle.values.specs.Sizes.{room, start_room}
 use Rattle.values.specs.Value.{pick, signed}
@@ -12,13 +12,11 @@ use Rattle.values.specs.Sent.{sent_back}
 use Rattle.values.specs.Checks.{in_order}
 use Rattle.families.specs.Refusals.{family_check, op_belongs, ret_belongs, shape_check, size_check, start_check}
 use Rattle.values.specs.declared.coded.Coded.{Coded}
-use Rattle.values.specs.declared.value.Maybe.TheVariants.{Nothing, Value}
 use Rattle.families.specs.declared.Kind.{Kind}
 use Rattle.families.specs.declared.Kind.TheVariants.{Register, WORegister, Vec}
-use Rattle.values.specs.declared.refusal.Check.TheVariants.{Clear}
 
 -- A start of at most 32 values is one that a constructor takes.
-pub start_clear : (c : Coded) (items : List ℤ) → c.count ≤ start_room → start_check (start_from c items).kind ≡ Clear
+pub start_clear : (c : Coded) (items : List ℤ) → c.count ≤ start_room → start_check (start_from c items).kind ≡ Ok tt
 unfolding start_from new_register new_once new_stack start_check shape_check size_check in_order depth_check low_check
 start_clear c items h = go (eqb c.number 0) (eqb c.number 1)
   where
@@ -26,7 +24,7 @@ start_clear c items h = go (eqb c.number 0) (eqb c.number 1)
     deep = omega arith
 
     go : (a b : Bool)
-        → start_check (pick a (new_register (signed c.word)) (pick b (new_once (maybe_from c)) (new_stack items c.count))).kind ≡ Clear
+        → start_check (pick a (new_register (signed c.word)) (pick b (new_once (maybe_from c)) (new_stack items c.count))).kind ≡ Ok tt
     go true b = refl
     go false true = refl
     go false false = rw (le-ltb room c.count deep, le-ltb start_room c.count h) refl
@@ -43,17 +41,17 @@ ret_from_family registers c = refl
 ret_from_family write_onces c = refl
 ret_from_family stacks c = refl
 
-same_clear : (f g : Family) → f ≡ g → family_check f g ≡ Clear
+same_clear : (f g : Family) → f ≡ g → family_check f g ≡ Ok tt
 unfolding family_check
 same_clear f g e = rw (eq-eqb (family_number f) (family_number g) (ap family_number e)) refl
 
 -- An operation or a return that is read in the family of an object belongs to it.
 
-pub op_from_belongs : (k : Kind) (c : Coded) → op_belongs k (op_from (family_of k) c) ≡ Clear
+pub op_from_belongs : (k : Kind) (c : Coded) → op_belongs k (op_from (family_of k) c) ≡ Ok tt
 unfolding op_belongs
 op_from_belongs k c = same_clear (op_family (op_from (family_of k) c)) (family_of k) (op_from_family (family_of k) c)
 
-pub ret_from_belongs : (k : Kind) (c : Coded) → ret_belongs k (ret_from (family_of k) c) ≡ Clear
+pub ret_from_belongs : (k : Kind) (c : Coded) → ret_belongs k (ret_from (family_of k) c) ≡ Ok tt
 unfolding ret_belongs
 ret_from_belongs k c = same_clear (ret_family (ret_from (family_of k) c)) (family_of k) (ret_from_family (family_of k) c)
 
@@ -61,6 +59,6 @@ ret_from_belongs k c = same_clear (ret_family (ret_from (family_of k) c)) (famil
 pub start_back : (k : Kind) (items : List ℤ) → (start_from (start_coded k) items).kind ≡ k
 unfolding start_from start_coded new_register new_once new_stack maybe_coded maybe_from
 start_back (Register v) items = ap Register (sent_back v)
-start_back (WORegister Nothing) items = refl
-start_back (WORegister (Value v)) items = ap (λ (w : ℤ). WORegister (Value w)) (sent_back v)
+start_back (WORegister None) items = refl
+start_back (WORegister (Some v)) items = ap (λ (w : ℤ). WORegister (Some w)) (sent_back v)
 start_back (Vec d) items = refl

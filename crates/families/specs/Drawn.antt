@@ -1,8 +1,7 @@
 -- For each answer that a bare step may give of an object, an operation and a return that draw it.
-use Rattle.std.specs.Prelude.{ℕ, ◌≡◌, refl, Bool, true, false, List, ◌≢◌, ℤ, pos}
+use Rattle.std.specs.Prelude.{◌≡◌, refl, Bool, true, false, List, ◌≢◌, ℤ, pos, None}
 use Rattle.std.proofs.Common.{sym, ap, ◌∙◌, arith}
 use Rattle.values.specs.Sizes.{room}
-use Rattle.values.specs.declared.value.Maybe.TheVariants.{Nothing}
 use Rattle.objects.specs.Register.{register_answer}
 use Rattle.objects.specs.WriteOnce.{once_answer}
 use Rattle.objects.specs.Stack.{storage_answer, pops}
@@ -27,9 +26,9 @@ use Rattle.values.specs.declared.held.Held.{Held}
 -- 3: an operation of another family.
 pub other_op : (k : Kind) → (op : Op) × OtherOp k op
 unfolding family_of op_family
-other_op (Register v) = (OVec Len, λ e. let z : ◌≡◌ {A = ℕ} 0 1 = cc in omega arith)
-other_op (WORegister m) = (OVec Len, λ e. let z : ◌≡◌ {A = ℕ} 0 1 = cc in omega arith)
-other_op (Vec d) = (ORegister Read, λ e. let z : ◌≡◌ {A = ℕ} 0 1 = cc in omega arith)
+other_op (Register v) = (OVec Len, λ e. cc)
+other_op (WORegister m) = (OVec Len, λ e. cc)
+other_op (Vec d) = (ORegister Read, λ e. cc)
 
 -- 7: a Push on a full stack, with PushOk.
 
@@ -87,27 +86,27 @@ erring (Register v) = record {
   ret = RRegister WriteOk;
   own = refl;
   own_ret = refl;
-  untaken = λ e. let z : ◌≡◌ {A = ℕ} 0 1 = cc in omega arith;
+  untaken = λ e. cc;
   keeps = refl;
-  wrong = λ items h. not_answered items h (ORegister Read) (RRegister WriteOk) (λ e. let z : ◌≡◌ {A = ℕ} 0 1 = cc in omega arith);
+  wrong = λ items h. not_answered items h (ORegister Read) (RRegister WriteOk) (λ e. cc);
 }
 erring (WORegister m) = record {
   op = OWORegister ORead;
   ret = RWORegister OWriteOk;
   own = refl;
   own_ret = refl;
-  untaken = λ e. let z : ◌≡◌ {A = ℕ} 0 1 = cc in omega arith;
+  untaken = λ e. cc;
   keeps = refl;
-  wrong = λ items h. not_answered items h (OWORegister ORead) (RWORegister OWriteOk) (λ e. let z : ◌≡◌ {A = ℕ} 0 1 = cc in omega arith);
+  wrong = λ items h. not_answered items h (OWORegister ORead) (RWORegister OWriteOk) (λ e. cc);
 }
 erring (Vec d) = record {
   op = OVec Len;
-  ret = RVec (PopOk Nothing);
+  ret = RVec (PopOk None);
   own = refl;
   own_ret = refl;
-  untaken = λ e. let z : ◌≡◌ {A = ℕ} 0 1 = cc in omega arith;
+  untaken = λ e. cc;
   keeps = refl;
-  wrong = λ items h. not_answered items h (OVec Len) (RVec (PopOk Nothing)) (λ e. let z : ◌≡◌ {A = ℕ} 0 1 = cc in omega arith);
+  wrong = λ items h. not_answered items h (OVec Len) (RVec (PopOk None)) (λ e. cc);
 }
 
 -- A Push with another return than PushOk is wrong, and is not done all the same.

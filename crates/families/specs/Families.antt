@@ -1,5 +1,5 @@
 -- The families as one abstract object: what it holds, what it answers, which returns are right, and what it leaves.
-use Rattle.std.specs.Prelude.{Bool, false, List, [], ◌∷◌, ℤ, pos, eqb}
+use Rattle.std.specs.Prelude.{Bool, false, List, [], ◌∷◌, ℤ, pos, eqb, Option, Some, None}
 use Rattle.history.specs.Object.{Object}
 use Rattle.values.specs.Value.{pick}
 use Rattle.values.specs.Coded.{same_coded}
@@ -8,8 +8,6 @@ use Rattle.objects.specs.Register.{register_answer, register_after}
 use Rattle.objects.specs.WriteOnce.{once_answer, once_after}
 use Rattle.objects.specs.Stack.{first, stack_answer, stack_after}
 use Rattle.families.specs.Codes.{ret_coded}
-use Rattle.values.specs.declared.value.Maybe.{Maybe}
-use Rattle.values.specs.declared.value.Maybe.TheVariants.{Nothing, Value}
 use Rattle.families.specs.declared.Op.{Op}
 use Rattle.families.specs.declared.Op.TheVariants.{Register as ORegister, WORegister as OWORegister, Vec as OVec}
 use Rattle.families.specs.declared.Ret.{Ret}
@@ -25,9 +23,9 @@ value_of [] = pos 0
 value_of (v ∷ vs) = v
 
 -- nothing or a value, as a list
-abbrev pub listed : Maybe → State
-listed Nothing = []
-listed (Value v) = v ∷ []
+abbrev pub listed : Option ℤ → State
+listed None = []
+listed (Some v) = v ∷ []
 
 unfoldable pub answers : State → Op → Ret
 answers s (ORegister p) = RRegister (register_answer (value_of s) p)

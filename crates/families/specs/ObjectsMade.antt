@@ -1,5 +1,5 @@
 -- What the constructors make: an object of its family that holds what was given.
-use Rattle.std.specs.Prelude.{ℕ, zero, suc, ◌≤◌, ◌<◌, ◌≡◌, refl, List, [], ◌∷◌, reverse, length, get_or, take, ℤ, pos, ◌↔◌}
+use Rattle.std.specs.Prelude.{ℕ, zero, suc, ◌≤◌, ◌<◌, ◌≡◌, refl, List, [], ◌∷◌, reverse, length, get_or, take, ℤ, pos, ◌↔◌, Option, Some, None}
 use Rattle.std.proofs.Common.{sym, ap, ◌∙◌, take-suc, arith}
 use Rattle.std.proofs.lemmas.List.{reverse-append}
 use Rattle.values.specs.Sizes.{room}
@@ -9,8 +9,6 @@ use Rattle.families.specs.Family.{Family, registers, write_onces, stacks, family
 use Rattle.families.specs.Objects.{zeros, new_register, new_once, new_stack, stand_in}
 use Rattle.families.specs.States.{state_of}
 use Rattle.families.specs.BareRefusals.{TooDeep}
-use Rattle.values.specs.declared.value.Maybe.{Maybe}
-use Rattle.values.specs.declared.value.Maybe.TheVariants.{Nothing, Value}
 use Rattle.families.specs.declared.Kind.{Kind}
 use Rattle.families.specs.declared.Kind.TheVariants.{Register, WORegister, Vec}
 use Rattle.families.specs.declared.Object.{Object}
@@ -28,11 +26,11 @@ register_made v = record { of_family = refl; holding = refl; storing = refl }
 
 -- A write-once register holds nothing, or its value.
 
-pub nothing_made : Makes (new_once Nothing) write_onces [] zeros
+pub nothing_made : Makes (new_once None) write_onces [] zeros
 unfolding new_once family_of state_of
 nothing_made = record { of_family = refl; holding = refl; storing = refl }
 
-pub value_made : (v : ℤ) → Makes (new_once (Value v)) write_onces (v ∷ []) zeros
+pub value_made : (v : ℤ) → Makes (new_once (Some v)) write_onces (v ∷ []) zeros
 unfolding new_once family_of state_of
 value_made v = record { of_family = refl; holding = refl; storing = refl }
 
@@ -68,11 +66,11 @@ default_made (Vec d) = record { of_family = refl; holding = refl; storing = refl
 
 pub register_shaped : (v : ℤ) → ¬ TooDeep (new_register v).kind
 unfolding new_register
-register_shaped v x = let z : ◌≡◌ {A = ℕ} 0 1 = cc in omega arith
+register_shaped v x = cc
 
-pub once_shaped : (m : Maybe) → ¬ TooDeep (new_once m).kind
+pub once_shaped : (m : Option ℤ) → ¬ TooDeep (new_once m).kind
 unfolding new_once
-once_shaped m x = let z : ◌≡◌ {A = ℕ} 0 1 = cc in omega arith
+once_shaped m x = cc
 
 pub stack_shaped : (items : List ℤ) (d : ℕ) → TooDeep (new_stack items d).kind ↔ room < d
 unfolding new_stack

@@ -1,5 +1,5 @@
 -- Placing an operation and undoing it: what an object holds, in two words and a stack's items.
-use Rattle.std.specs.Prelude.{ℕ, Bool, true, false, List, set, ℤ, pos, ltb, eqb}
+use Rattle.std.specs.Prelude.{ℕ, Bool, true, false, List, set, ℤ, pos, ltb, eqb, Option, Some, None}
 use Rattle.values.specs.Value.{pick}
 use Rattle.values.specs.Held.{held}
 use Rattle.objects.specs.Register.{register_answer, register_after}
@@ -7,8 +7,6 @@ use Rattle.objects.specs.WriteOnce.{once_answer, once_after}
 use Rattle.values.specs.Sizes.{room}
 use Rattle.objects.specs.Stack.{item_at, storage_answer, depth_after, items_after, stack_changes, pops, popped}
 use Rattle.families.specs.Families.{same_ret}
-use Rattle.values.specs.declared.value.Maybe.{Maybe}
-use Rattle.values.specs.declared.value.Maybe.TheVariants.{Nothing, Value}
 use Rattle.families.specs.declared.Kind.{Kind}
 use Rattle.families.specs.declared.Kind.TheVariants.{Register, WORegister, Vec}
 use Rattle.families.specs.declared.Op.{Op}
@@ -18,16 +16,14 @@ use Rattle.families.specs.declared.Ret.TheVariants.{Register as RRegister, WOReg
 use Rattle.values.specs.declared.held.Held.{Held}
 use Rattle.values.specs.declared.held.Undo.{Undo}
 use Rattle.values.specs.declared.held.Acted.{Acted}
-use Rattle.families.specs.declared.placing.Outcome.{Outcome}
-use Rattle.families.specs.declared.placing.Outcome.TheVariants.{Pending, Returned}
 
 -- a write-once register holds nothing at height 0
-unfoldable pub once_of : Held → Maybe
-once_of h = pick (eqb h.height 0) Nothing (Value h.value)
+unfoldable pub once_of : Held → Option ℤ
+once_of h = pick (eqb h.height 0) None (Some h.value)
 
-unfoldable pub held_once : Maybe → Held
-held_once Nothing = held (pos 0) 0
-held_once (Value v) = held v 1
+unfoldable pub held_once : Option ℤ → Held
+held_once None = held (pos 0) 0
+held_once (Some v) = held v 1
 
 unfoldable pub held_of : Kind → Held
 held_of (Register v) = held v 0
@@ -55,13 +51,13 @@ right_of items h (OVec p) ret = same_ret (answer_of items h (OVec p)) ret
 -- an operation in flight may be placed anywhere, with the return that the object gives; one that has returned,
 -- where its return is right
 
-unfoldable pub fits_of : List ℤ → Held → Op → Outcome → Bool
-fits_of items h op Pending = true
-fits_of items h op (Returned ret) = right_of items h op ret
+unfoldable pub fits_of : List ℤ → Held → Op → Option Ret → Bool
+fits_of items h op None = true
+fits_of items h op (Some ret) = right_of items h op ret
 
-unfoldable pub given_of : List ℤ → Held → Op → Outcome → Ret
-given_of items h op Pending = answer_of items h op
-given_of items h op (Returned ret) = ret
+unfoldable pub given_of : List ℤ → Held → Op → Option Ret → Ret
+given_of items h op None = answer_of items h op
+given_of items h op (Some ret) = ret
 
 -- what it leaves, and how to undo it
 

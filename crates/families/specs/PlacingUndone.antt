@@ -1,8 +1,8 @@
 -- Undoing after placing gives back what was there: an operation changes one place of the storage at most.
-use Rattle.std.specs.Prelude.{ℕ, ◌-◌, ◌<◌, ◌≡◌, refl, Bool, true, false, List, length, get_or, set, ℤ, pos, ltb, leb, eqb}
-use Rattle.std.proofs.Common.{ap, ◌∙◌, length-set, set-set, lt-ltb, leb-true, arith}
+use Rattle.std.specs.Prelude.{ℕ, ◌-◌, ◌<◌, ◌≡◌, refl, Bool, true, false, List, length, get_or, set, ℤ, pos, ltb}
+use Rattle.std.proofs.Common.{ap, ◌∙◌, length-set, set-set, arith}
 use Rattle.std.proofs.lemmas.List.{set-get_or}
-use Rattle.std.proofs.lemmas.Bool.{eqb-false}
+use Rattle.std.proofs.lemmas.Grind.{common_steps}
 use Rattle.values.specs.Value.{pick}
 use Rattle.values.specs.Sizes.{room}
 use Rattle.objects.specs.Stack.{item_at, frees, items_after, stack_changes, stack_written}
@@ -24,24 +24,12 @@ changed items i v = pick (ltb i room) (set items i v) items
 
 freed : (d : ℕ) → frees d ≡ true → d - 1 < room
 unfolding frees
-freed d h = go (eqb d 0) refl h
-  where
-    go : (b : Bool) → eqb d 0 ≡ b → pick b false (leb d room) ≡ true → d - 1 < room
-    go true e h = absurd (let z : ◌≡◌ {A = ℕ} 0 1 = cc in omega arith)
-    go false e h = omega (arith, leb-true d room h, eqb-false d 0 e)
+freed d h = grind (arith, common_steps)
 
 stack_one : (items : List ℤ) (d : ℕ) (p : VecOp) → items_after items d p ≡ changed items (stack_changes d p) (stack_written p)
 unfolding items_after stack_changes changed
-stack_one items d (Push v) = go (ltb d room) refl
-  where
-    go : (b : Bool) → ltb d room ≡ b → pick b (set items d v) items ≡ changed items (pick b d room) v
-    go true e = rw e
-    go false e = refl
-stack_one items d Pop = go (frees d) refl
-  where
-    go : (b : Bool) → frees d ≡ b → pick b (set items (d - 1) (pos 0)) items ≡ changed items (pick b (d - 1) room) (pos 0)
-    go true e = rw (lt-ltb (d - 1) room (freed d e))
-    go false e = refl
+stack_one items d (Push v) = grind (arith, common_steps)
+stack_one items d Pop = grind (arith, common_steps, freed)
 stack_one items d Len = refl
 
 leaves_one : (items : List ℤ) (h : Held) (op : Op) → leaves_of items h op ≡ changed items (changes h op) (written op)
@@ -66,8 +54,4 @@ back_acted items h op = rw (leaves_one items h op) (back_one items (changes h op
 -- no item more or less
 pub leaves_length : (items : List ℤ) (h : Held) (op : Op) → length (leaves_of items h op) ≡ length items
 unfolding changed
-leaves_length items h op = ap length (leaves_one items h op) ∙ go (ltb (changes h op) room)
-  where
-    go : (b : Bool) → length (pick b (set items (changes h op) (written op)) items) ≡ length items
-    go true = length-set items (changes h op) (written op)
-    go false = refl
+leaves_length items h op = ap length (leaves_one items h op) ∙ grind (arith, common_steps, length-set)

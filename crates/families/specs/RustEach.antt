@@ -1,10 +1,9 @@
 -- Each family does what the Rust's object of it does, one by one: what an operation answers and leaves, whether a return is right, and what is
 -- left then.
-use Rattle.std.specs.Prelude.{ℕ, ◌+◌, ◌*◌, ◌≡◌, refl, ◌≢◌, Bool, true, false, cond, not, length, ℤ, pos, negsuc, eqb}
-use Rattle.std.proofs.Common.{sym, ap, ◌∙◌, eq-eqb, eqb-true, ne_eqb, arith}
+use Rattle.std.specs.Prelude.{ℕ, ◌≡◌, refl, Bool, true, false, cond, not, length, ℤ, pos, negsuc, eqb, Option, Some, None}
+use Rattle.std.proofs.Common.{sym, ap, ◌∙◌, arith}
 use mathlib.Core.List.{List, [], ◌∷◌, ◌++◌, reverse, reverse-cons}
 use Rattle.std.proofs.lemmas.List.{length-reverse}
-use Rattle.std.proofs.lemmas.Bool.{eqb-false}
 use Rattle.values.specs.Value.{pick, zigzag, eq_z, same_maybe}
 use Rattle.values.specs.Coded.{maybe_coded, same_coded}
 use Rattle.values.specs.SameValues.{values, maybe_same}
@@ -12,8 +11,6 @@ use Rattle.objects.specs.Register.{register_answer, register_after, register_ret
 use Rattle.objects.specs.WriteOnce.{writes, write_answer, once_answer, once_after, once_ret_coded}
 use Rattle.objects.specs.Stack.{first, stack_answer, stack_after, stack_ret_coded, pops, popped}
 use Rattle.families.specs.RustObjects.{same_value, same_option, register_step, once_invoke, once_step, vec_invoke, vec_step, pop}
-use Rattle.values.specs.declared.value.Maybe.{Maybe}
-use Rattle.values.specs.declared.value.Maybe.TheVariants.{Nothing, Value}
 use Rattle.objects.specs.declared.register.RegisterOp.{RegisterOp}
 use Rattle.objects.specs.declared.register.RegisterOp.TheVariants.{Write, Read}
 use Rattle.objects.specs.declared.register.RegisterRet.{RegisterRet}
@@ -29,52 +26,31 @@ use Rattle.objects.specs.declared.vec.VecRet.TheVariants.{PushOk, PopOk, LenOk}
 
 -- values
 
-double_same : (a b : ℕ) → eqb (2 * a) (2 * b) ≡ eqb a b
-double_same a b = go (eqb a b) refl
-  where
-    go : (c : Bool) → eqb a b ≡ c → eqb (2 * a) (2 * b) ≡ c
-    go true e = eq-eqb (2 * a) (2 * b) (omega (arith, eqb-true a b e))
-    go false e = let n : a ≢ b = eqb-false a b e in ne_eqb (2 * a) (2 * b) (λ z. n (omega arith))
-
-odd_same : (a b : ℕ) → eqb (2 * a + 1) (2 * b + 1) ≡ eqb a b
-odd_same a b = go (eqb a b) refl
-  where
-    go : (c : Bool) → eqb a b ≡ c → eqb (2 * a + 1) (2 * b + 1) ≡ c
-    go true e = eq-eqb (2 * a + 1) (2 * b + 1) (omega (arith, eqb-true a b e))
-    go false e = let n : a ≢ b = eqb-false a b e in ne_eqb (2 * a + 1) (2 * b + 1) (λ z. n (omega arith))
-
 value_same : (a b : ℤ) → eq_z a b ≡ same_value a b
 unfolding eq_z zigzag
-value_same (pos a) (pos b) = double_same a b
-value_same (pos a) (negsuc b) = ne_eqb (2 * a) (2 * b + 1) (λ z. omega arith)
-value_same (negsuc a) (pos b) = ne_eqb (2 * a + 1) (2 * b) (λ z. omega arith)
-value_same (negsuc a) (negsuc b) = odd_same a b
+value_same (pos a) (pos b) = grind arith
+value_same (pos a) (negsuc b) = grind arith
+value_same (negsuc a) (pos b) = grind arith
+value_same (negsuc a) (negsuc b) = grind arith
 
-option_same : (a b : Maybe) → same_maybe a b ≡ same_option a b
+option_same : (a b : Option ℤ) → same_maybe a b ≡ same_option a b
 unfolding same_maybe
-option_same Nothing Nothing = refl
-option_same Nothing (Value b) = refl
-option_same (Value a) Nothing = refl
-option_same (Value a) (Value b) = value_same a b
-
-eqb_turned : (a b : ℕ) → eqb a b ≡ eqb b a
-eqb_turned a b = go (eqb b a) refl
-  where
-    go : (c : Bool) → eqb b a ≡ c → eqb a b ≡ c
-    go true e = eq-eqb a b (sym (eqb-true b a e))
-    go false e = let n : b ≢ a = eqb-false b a e in ne_eqb a b (λ z. n (sym z))
+option_same None None = refl
+option_same None (Some b) = refl
+option_same (Some a) None = refl
+option_same (Some a) (Some b) = value_same a b
 
 -- what is held, and what is written
 written_same : (v vp : ℤ) → eq_z vp v ≡ same_value v vp
-unfolding eq_z
-written_same v vp = eqb_turned (zigzag vp) (zigzag v) ∙ go
-  where
-    go : eqb (zigzag v) (zigzag vp) ≡ same_value v vp
-    go = value_same v vp
+unfolding eq_z zigzag
+written_same (pos a) (pos b) = grind arith
+written_same (pos a) (negsuc b) = grind arith
+written_same (negsuc a) (pos b) = grind arith
+written_same (negsuc a) (negsuc b) = grind arith
 
 -- a stack turned round
 
-pop_last : (vs : List ℤ) (v : ℤ) → pop (vs ++ (v ∷ [])) ≡ (Value v, vs)
+pop_last : (vs : List ℤ) (v : ℤ) → pop (vs ++ (v ∷ [])) ≡ (Some v, vs)
 pop_last [] v = refl
 pop_last (w ∷ []) v = refl
 pop_last (w ∷ x ∷ vs) v = rw (pop_last (x ∷ vs) v)
@@ -105,56 +81,56 @@ register_agrees v Read (ReadOk x) =
     let h : stepping (eq_z v x) v v ≡ stepping (same_value v x) v v = ap (λ (b : Bool). stepping b v v) e in
     ap (λ (w : ℤ). (same_value v x, w)) (sym (same_either (same_value v x) v)) ∙ sym h
 
-pub once_invokes : (m : Maybe) (p : WORegisterOp) → once_invoke m p ≡ (once_answer m p, once_after m p)
+pub once_invokes : (m : Option ℤ) (p : WORegisterOp) → once_invoke m p ≡ (once_answer m p, once_after m p)
 unfolding once_answer once_after writes write_answer
-once_invokes Nothing (WOWrite v) = refl
-once_invokes (Value x) (WOWrite v) = go (same_value v x) (written_same v x)
+once_invokes None (WOWrite v) = refl
+once_invokes (Some x) (WOWrite v) = go (same_value v x) (written_same v x)
   where
-    go : (b : Bool) → eq_z x v ≡ b → ◌≡◌ {A = WORegisterRet × Maybe} (cond b (WOWriteOk, Value v) (WriteFail, Value x)) (write_answer (eq_z x v), Value x)
+    go : (b : Bool) → eq_z x v ≡ b → ◌≡◌ {A = WORegisterRet × Option ℤ} (cond b (WOWriteOk, Some v) (WriteFail, Some x)) (write_answer (eq_z x v), Some x)
     go true e = let z : x ≡ v = values.equal x v e in rw (e, z)
     go false e = rw e
-once_invokes Nothing WORead = refl
-once_invokes (Value x) WORead = refl
+once_invokes None WORead = refl
+once_invokes (Some x) WORead = refl
 
 pub vec_invokes : (s : List ℤ) (p : VecOp) → vec_invoke (reverse s) p ≡ (stack_answer s p, reverse (stack_after s p))
 unfolding stack_answer stack_after
 vec_invokes s (Push v) = ap (λ (l : List ℤ). (PushOk, l)) (sym (reverse-cons v s))
-vec_invokes s Pop = ap (λ (x : Maybe × List ℤ). (PopOk x.0, x.1)) (pop_turned s)
+vec_invokes s Pop = ap (λ (x : Option ℤ × List ℤ). (PopOk x.0, x.1)) (pop_turned s)
 vec_invokes s Len = ap (λ (n : ℕ). (LenOk n, reverse s)) (length-reverse s)
 
 -- an answer that holds a value or nothing, with the number n, after which the same is left
-kept : {A : Type 0} (n : ℕ) (a b : Maybe) (left : A) → (same_option a b, left) ≡ stepping (same_coded (maybe_coded n a) (maybe_coded n b)) left left
+kept : {A : Type 0} (n : ℕ) (a b : Option ℤ) (left : A) → (same_option a b, left) ≡ stepping (same_coded (maybe_coded n a) (maybe_coded n b)) left left
 kept n a b left =
     let e : same_coded (maybe_coded n a) (maybe_coded n b) ≡ same_option a b = maybe_same n a b ∙ option_same a b in
     rw (e, same_either (same_option a b) left)
 
-pub once_agrees : (m : Maybe) (p : WORegisterOp) (q : WORegisterRet)
+pub once_agrees : (m : Option ℤ) (p : WORegisterOp) (q : WORegisterRet)
     → once_step m p q ≡ stepping (same_coded (once_ret_coded (once_answer m p)) (once_ret_coded q)) (once_after m p) m
 unfolding once_answer once_after writes write_answer once_ret_coded same_coded maybe_coded
-once_agrees Nothing (WOWrite v) WOWriteOk = refl
-once_agrees Nothing (WOWrite v) WriteFail = refl
-once_agrees Nothing (WOWrite v) (WOReadOk n) = refl
-once_agrees (Value x) (WOWrite v) WOWriteOk = rw (← written_same v x) (go (eq_z x v))
+once_agrees None (WOWrite v) WOWriteOk = refl
+once_agrees None (WOWrite v) WriteFail = refl
+once_agrees None (WOWrite v) (WOReadOk n) = refl
+once_agrees (Some x) (WOWrite v) WOWriteOk = rw (← written_same v x) (go (eq_z x v))
   where
-    go : (b : Bool) → (b, Value x) ≡ stepping (same_coded (once_ret_coded (write_answer b)) (once_ret_coded WOWriteOk)) (Value x) (Value x)
+    go : (b : Bool) → (b, Some x) ≡ stepping (same_coded (once_ret_coded (write_answer b)) (once_ret_coded WOWriteOk)) (Some x) (Some x)
     go true = refl
     go false = refl
-once_agrees (Value x) (WOWrite v) WriteFail = rw (← written_same v x) (go (eq_z x v))
+once_agrees (Some x) (WOWrite v) WriteFail = rw (← written_same v x) (go (eq_z x v))
   where
-    go : (b : Bool) → (not b, Value x) ≡ stepping (same_coded (once_ret_coded (write_answer b)) (once_ret_coded WriteFail)) (Value x) (Value x)
+    go : (b : Bool) → (not b, Some x) ≡ stepping (same_coded (once_ret_coded (write_answer b)) (once_ret_coded WriteFail)) (Some x) (Some x)
     go true = refl
     go false = refl
-once_agrees (Value x) (WOWrite v) (WOReadOk n) = go (eq_z x v)
+once_agrees (Some x) (WOWrite v) (WOReadOk n) = go (eq_z x v)
   where
-    go : (b : Bool) → (false, Value x) ≡ stepping (same_coded (once_ret_coded (write_answer b)) (once_ret_coded (WOReadOk n))) (Value x) (Value x)
+    go : (b : Bool) → (false, Some x) ≡ stepping (same_coded (once_ret_coded (write_answer b)) (once_ret_coded (WOReadOk n))) (Some x) (Some x)
     go true = refl
     go false = refl
-once_agrees Nothing WORead WOWriteOk = refl
-once_agrees Nothing WORead WriteFail = refl
-once_agrees Nothing WORead (WOReadOk n) = kept 2 Nothing n Nothing
-once_agrees (Value x) WORead WOWriteOk = refl
-once_agrees (Value x) WORead WriteFail = refl
-once_agrees (Value x) WORead (WOReadOk n) = kept 2 (Value x) n (Value x)
+once_agrees None WORead WOWriteOk = refl
+once_agrees None WORead WriteFail = refl
+once_agrees None WORead (WOReadOk n) = kept 2 None n None
+once_agrees (Some x) WORead WOWriteOk = refl
+once_agrees (Some x) WORead WriteFail = refl
+once_agrees (Some x) WORead (WOReadOk n) = kept 2 (Some x) n (Some x)
 
 -- with what is left turned round
 abbrev pub turned : Bool × List ℤ → Bool × List ℤ
@@ -169,7 +145,7 @@ vec_agrees s (Push v) (PopOk m) = refl
 vec_agrees s (Push v) (LenOk l) = refl
 vec_agrees s Pop PushOk = refl
 vec_agrees s Pop (PopOk m) =
-    ap (λ (x : Maybe × List ℤ). (same_option x.0 m, x.1)) (pop_turned s) ∙ ap turned (kept 1 (first s) m (stack_after s Pop))
+    ap (λ (x : Option ℤ × List ℤ). (same_option x.0 m, x.1)) (pop_turned s) ∙ ap turned (kept 1 (first s) m (stack_after s Pop))
 vec_agrees s Pop (LenOk l) = refl
 vec_agrees s Len PushOk = refl
 vec_agrees s Len (PopOk m) = refl

@@ -1,6 +1,6 @@
 -- The families are the Rust's objects: what the abstract object answers, calls right and leaves is what the transcribed `invoke` and
 -- `is_valid_step` do, and the object of the port that holds a state is the Rust's that holds it.
-use Rattle.std.specs.Prelude.{ℕ, zero, suc, ◌≤◌, ◌≡◌, refl, Bool, true, false, length, get_or, take, ℤ, pos}
+use Rattle.std.specs.Prelude.{ℕ, zero, suc, ◌≤◌, ◌≡◌, refl, Bool, true, false, length, get_or, take, ℤ, pos, Option}
 use Rattle.std.proofs.Common.{sym, ap, ◌∙◌, take-suc, arith}
 use mathlib.Core.List.{List, [], ◌∷◌, ◌++◌, reverse, reverse-cons}
 use Rattle.values.specs.Value.{pick}
@@ -15,7 +15,6 @@ use Rattle.families.specs.Objects.{new_register, new_once, new_stack, stand_in}
 use Rattle.families.specs.Placing.{takes, taken, leaves_wrong}
 use Rattle.families.specs.States.{state_of, first_listed}
 use Rattle.families.specs.RustObjects.{RefObj, Register, WORegister, Vec, invoke, is_valid_step, default_of, from_bottom, ref_obj_of, ref_obj}
-use Rattle.values.specs.declared.value.Maybe.{Maybe}
 use Rattle.objects.specs.declared.register.RegisterOp.TheVariants.{Write, Read}
 use Rattle.objects.specs.declared.write_once_register.WORegisterRet.{WORegisterRet}
 use Rattle.objects.specs.declared.vec.VecRet.{VecRet}
@@ -39,8 +38,8 @@ unfolding holding op_family answers after register_answer register_after
 invoke_same s (ORegister (Write v)) = refl
 invoke_same s (ORegister Read) = refl
 invoke_same s (OWORegister p) =
-    ap (λ (x : WORegisterRet × Maybe). (RWORegister x.0, WORegister x.1)) (once_invokes (first s) p)
-    ∙ ap (λ (m : Maybe). (RWORegister (once_answer (first s) p), WORegister m)) (sym (first_listed (once_after (first s) p)))
+    ap (λ (x : WORegisterRet × Option ℤ). (RWORegister x.0, WORegister x.1)) (once_invokes (first s) p)
+    ∙ ap (λ (m : Option ℤ). (RWORegister (once_answer (first s) p), WORegister m)) (sym (first_listed (once_after (first s) p)))
 invoke_same s (OVec p) = ap (λ (x : VecRet × List ℤ). (RVec x.0, Vec x.1)) (vec_invokes s p)
 
 -- What a step leaves: after a yes what the operation leaves, and so after a no that leaves it all the same; else what was there.
@@ -62,7 +61,7 @@ step_same s (ORegister p) (RVec q) = refl
 step_same s (OWORegister p) (RRegister q) = refl
 step_same s (OWORegister p) (RWORegister q) =
     let b = same_coded (once_ret_coded (once_answer (first s) p)) (once_ret_coded q) in
-    ap (λ (x : Bool × Maybe). (x.0, WORegister x.1)) (once_agrees (first s) p q) ∙ ap (λ (m : Maybe). (b, WORegister m)) (go b)
+    ap (λ (x : Bool × Option ℤ). (x.0, WORegister x.1)) (once_agrees (first s) p q) ∙ ap (λ (m : Option ℤ). (b, WORegister m)) (go b)
   where
     go : (b : Bool) → pick b (once_after (first s) p) (first s) ≡ first (pick b (listed (once_after (first s) p)) s)
     go true = sym (first_listed (once_after (first s) p))

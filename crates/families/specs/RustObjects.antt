@@ -1,10 +1,6 @@
 -- The Rust's reference objects, transcribed: the trait of stateright 0.31.0, src/semantics.rs, and its three objects of values, register.rs,
--- write_once_register.rs and vec.rs in src/semantics. Definitions only. A method that takes &mut self gives its answer and what self is then;
--- Option<T> is Maybe.
-use Rattle.std.specs.Prelude.{ℕ, zero, suc, Bool, true, false, cond, not, List, [], ◌∷◌, ◌++◌, length, get_or, ℤ, pos, negsuc, eqb}
-use Rattle.std.proofs.Math.Option.{Option, none, some}
-use Rattle.values.specs.declared.value.Maybe.{Maybe}
-use Rattle.values.specs.declared.value.Maybe.TheVariants.{Nothing, Value}
+-- write_once_register.rs and vec.rs in src/semantics. Definitions only. A method that takes &mut self gives its answer and what self is then.
+use Rattle.std.specs.Prelude.{ℕ, zero, suc, Bool, true, false, cond, not, List, [], ◌∷◌, ◌++◌, length, get_or, ℤ, pos, negsuc, eqb, Option, Some, None}
 use Rattle.objects.specs.declared.register.RegisterOp.{RegisterOp}
 use Rattle.objects.specs.declared.register.RegisterOp.TheVariants.{Write, Read}
 use Rattle.objects.specs.declared.register.RegisterRet.{RegisterRet}
@@ -55,11 +51,11 @@ same_value (pos a) (negsuc b) = false
 same_value (negsuc a) (pos b) = false
 same_value (negsuc a) (negsuc b) = eqb a b
 
-abbrev pub same_option : Maybe → Maybe → Bool
-same_option Nothing Nothing = true
-same_option Nothing (Value b) = false
-same_option (Value a) Nothing = false
-same_option (Value a) (Value b) = same_value a b
+abbrev pub same_option : Option ℤ → Option ℤ → Bool
+same_option None None = true
+same_option None (Some b) = false
+same_option (Some a) None = false
+same_option (Some a) (Some b) = same_value a b
 
 -- pub struct Register<T>(pub T);
 
@@ -83,37 +79,37 @@ register = record { Self = ℤ; invoke = register_invoke; is_valid_step = regist
 
 -- pub struct WORegister<T>(pub Option<T>);
 
-abbrev pub once_invoke : Maybe → WORegisterOp → WORegisterRet × Maybe
+abbrev pub once_invoke : Option ℤ → WORegisterOp → WORegisterRet × Option ℤ
 -- (WORegisterOp::Write(v), None) => { self.0 = Some(v.clone()); WORegisterRet::WriteOk }
-once_invoke Nothing (WOWrite v) = (WOWriteOk, Value v)
+once_invoke None (WOWrite v) = (WOWriteOk, Some v)
 -- (WORegisterOp::Write(v), Some(vp)) if *v == *vp => { self.0 = Some(v.clone()); WORegisterRet::WriteOk }
 -- (WORegisterOp::Write(_), Some(_)) => WORegisterRet::WriteFail
-once_invoke (Value vp) (WOWrite v) = cond (same_value v vp) (WOWriteOk, Value v) (WriteFail, Value vp)
+once_invoke (Some vp) (WOWrite v) = cond (same_value v vp) (WOWriteOk, Some v) (WriteFail, Some vp)
 -- (WORegisterOp::Read, _) => WORegisterRet::ReadOk(self.0.clone())
-once_invoke Nothing WORead = (WOReadOk Nothing, Nothing)
-once_invoke (Value vp) WORead = (WOReadOk (Value vp), Value vp)
+once_invoke None WORead = (WOReadOk None, None)
+once_invoke (Some vp) WORead = (WOReadOk (Some vp), Some vp)
 
-abbrev pub once_step : Maybe → WORegisterOp → WORegisterRet → Bool × Maybe
+abbrev pub once_step : Option ℤ → WORegisterOp → WORegisterRet → Bool × Option ℤ
 -- (WORegisterOp::Write(v), WORegisterRet::WriteOk, None) => { self.0 = Some(v.clone()); true }
-once_step Nothing (WOWrite v) WOWriteOk = (true, Value v)
+once_step None (WOWrite v) WOWriteOk = (true, Some v)
 -- (WORegisterOp::Write(v), WORegisterRet::WriteOk, Some(vp)) if *v == *vp => true, and else _ => false
-once_step (Value vp) (WOWrite v) WOWriteOk = (same_value v vp, Value vp)
+once_step (Some vp) (WOWrite v) WOWriteOk = (same_value v vp, Some vp)
 -- (WORegisterOp::Write(v), WORegisterRet::WriteFail, Some(vp)) if *v != *vp => true, and else _ => false
-once_step (Value vp) (WOWrite v) WriteFail = (not (same_value v vp), Value vp)
+once_step (Some vp) (WOWrite v) WriteFail = (not (same_value v vp), Some vp)
 -- (WORegisterOp::Read, WORegisterRet::ReadOk(v), _) => &self.0 == v
-once_step Nothing WORead (WOReadOk m) = (same_option Nothing m, Nothing)
-once_step (Value vp) WORead (WOReadOk m) = (same_option (Value vp) m, Value vp)
+once_step None WORead (WOReadOk m) = (same_option None m, None)
+once_step (Some vp) WORead (WOReadOk m) = (same_option (Some vp) m, Some vp)
 -- _ => false
-once_step Nothing (WOWrite v) WriteFail = (false, Nothing)
-once_step Nothing (WOWrite v) (WOReadOk m) = (false, Nothing)
-once_step (Value vp) (WOWrite v) (WOReadOk m) = (false, Value vp)
-once_step Nothing WORead WOWriteOk = (false, Nothing)
-once_step (Value vp) WORead WOWriteOk = (false, Value vp)
-once_step Nothing WORead WriteFail = (false, Nothing)
-once_step (Value vp) WORead WriteFail = (false, Value vp)
+once_step None (WOWrite v) WriteFail = (false, None)
+once_step None (WOWrite v) (WOReadOk m) = (false, None)
+once_step (Some vp) (WOWrite v) (WOReadOk m) = (false, Some vp)
+once_step None WORead WOWriteOk = (false, None)
+once_step (Some vp) WORead WOWriteOk = (false, Some vp)
+once_step None WORead WriteFail = (false, None)
+once_step (Some vp) WORead WriteFail = (false, Some vp)
 
 abbrev pub write_once : SequentialSpec WORegisterOp WORegisterRet
-write_once = record { Self = Maybe; invoke = once_invoke; is_valid_step = once_step }
+write_once = record { Self = Option ℤ; invoke = once_invoke; is_valid_step = once_step }
 
 -- impl<T> SequentialSpec for Vec<T>: the top last.
 
@@ -122,9 +118,9 @@ abbrev pub push : List ℤ → ℤ → List ℤ
 push self v = self ++ (v ∷ [])
 
 -- pop: the last value, if there is one, and what is left
-abbrev pub pop : List ℤ → Maybe × List ℤ
-pop [] = (Nothing, [])
-pop (v ∷ []) = (Value v, [])
+abbrev pub pop : List ℤ → Option ℤ × List ℤ
+pop [] = (None, [])
+pop (v ∷ []) = (Some v, [])
 pop (v ∷ w ∷ vs) = ((pop (w ∷ vs)).0, v ∷ (pop (w ∷ vs)).1)
 
 abbrev pub vec_invoke : List ℤ → VecOp → VecRet × List ℤ
@@ -156,56 +152,56 @@ vec = record { Self = List ℤ; invoke = vec_invoke; is_valid_step = vec_step }
 -- An object of one of the three.
 pub data RefObj : Type 0 where
   Register : ℤ → RefObj
-  WORegister : Maybe → RefObj
+  WORegister : Option ℤ → RefObj
   Vec : List ℤ → RefObj
 
 -- Default, by family: Register<T> and WORegister<T> derive it, T::default() being 0 and Option<T>'s None; Vec's is Vec::new().
 abbrev pub default_of : Family → RefObj
 default_of registers = Register (pos 0)
-default_of write_onces = WORegister Nothing
+default_of write_onces = WORegister None
 default_of stacks = Vec []
 
 -- The three as one. The Rust's types let in an operation or a return of the object's own family only; what stands for another's, none, does
 -- nothing: invoke has no return, and a step is not valid.
 module _ {Op' Ret' : Type 0} (S : SequentialSpec Op' Ret') (ret : Ret' → Ret) (object : S.Self → RefObj) where
   abbrev invoke_own : S.Self → Option Op' → Ret × RefObj
-  invoke_own self none = (no_ret, object self)
-  invoke_own self (some op) = let x = S.invoke self op in (ret x.0, object x.1)
+  invoke_own self None = (no_ret, object self)
+  invoke_own self (Some op) = let x = S.invoke self op in (ret x.0, object x.1)
 
   abbrev step_own : S.Self → Option Op' → Option Ret' → Bool × RefObj
-  step_own self none r = (false, object self)
-  step_own self (some op) none = (false, object self)
-  step_own self (some op) (some r) = let x = S.is_valid_step self op r in (x.0, object x.1)
+  step_own self None r = (false, object self)
+  step_own self (Some op) None = (false, object self)
+  step_own self (Some op) (Some r) = let x = S.is_valid_step self op r in (x.0, object x.1)
 
 abbrev register_op : Op → Option RegisterOp
-register_op (ORegister op) = some op
-register_op (OWORegister op) = none
-register_op (OVec op) = none
+register_op (ORegister op) = Some op
+register_op (OWORegister op) = None
+register_op (OVec op) = None
 
 abbrev once_op : Op → Option WORegisterOp
-once_op (ORegister op) = none
-once_op (OWORegister op) = some op
-once_op (OVec op) = none
+once_op (ORegister op) = None
+once_op (OWORegister op) = Some op
+once_op (OVec op) = None
 
 abbrev vec_op : Op → Option VecOp
-vec_op (ORegister op) = none
-vec_op (OWORegister op) = none
-vec_op (OVec op) = some op
+vec_op (ORegister op) = None
+vec_op (OWORegister op) = None
+vec_op (OVec op) = Some op
 
 abbrev register_ret : Ret → Option RegisterRet
-register_ret (RRegister ret) = some ret
-register_ret (RWORegister ret) = none
-register_ret (RVec ret) = none
+register_ret (RRegister ret) = Some ret
+register_ret (RWORegister ret) = None
+register_ret (RVec ret) = None
 
 abbrev once_ret : Ret → Option WORegisterRet
-once_ret (RRegister ret) = none
-once_ret (RWORegister ret) = some ret
-once_ret (RVec ret) = none
+once_ret (RRegister ret) = None
+once_ret (RWORegister ret) = Some ret
+once_ret (RVec ret) = None
 
 abbrev vec_ret : Ret → Option VecRet
-vec_ret (RRegister ret) = none
-vec_ret (RWORegister ret) = none
-vec_ret (RVec ret) = some ret
+vec_ret (RRegister ret) = None
+vec_ret (RWORegister ret) = None
+vec_ret (RVec ret) = Some ret
 
 abbrev pub invoke : RefObj → Op → Ret × RefObj
 invoke (Register v) op = invoke_own register RRegister Register v (register_op op)

@@ -11,6 +11,11 @@ use Rattle.families.specs.CodesTell.{numbers_tell}
 use Rattle.families.specs.declared.Op.{Op}
 use Rattle.families.specs.declared.Op.TheVariants.{Register as ORegister, WORegister as OWORegister, Vec as OVec}
 use Rattle.families.specs.declared.Ret.{Ret}
+use Rattle.families.specs.declared.Ret.TheVariants.{Register as RRegister, WORegister as RWORegister, Vec as RVec}
+use Rattle.families.specs.contracts.RetPartialEq.TheImpl as equality
+use Rattle.objects.specs.RegisterTells.{register_ret_same}
+use Rattle.objects.specs.OnceTells.{once_ret_same}
+use Rattle.objects.specs.StackTells.{stack_ret_same}
 
 -- two returns are the same exactly if they are equal
 pub returns : Decides same_ret
@@ -24,6 +29,19 @@ returns = record {
     same a b h =
         numbers_tell a b (same_family (ret_family a) (ret_family b) (eqb-true (family_number (ret_family a)) (family_number (ret_family b)) h.0))
         (numbers.equal (ret_coded a) (ret_coded b) h.1)
+
+-- and `==` says the same of them
+pub ret_same : (a b : Ret) → (equality.ghosts).eq a b ≡ same_ret a b
+unfolding same_ret ret_family family_number ret_coded
+ret_same (RRegister a) (RRegister b) = register_ret_same a b
+ret_same (RRegister a) (RWORegister b) = refl
+ret_same (RRegister a) (RVec b) = refl
+ret_same (RWORegister a) (RRegister b) = refl
+ret_same (RWORegister a) (RWORegister b) = once_ret_same a b
+ret_same (RWORegister a) (RVec b) = refl
+ret_same (RVec a) (RRegister b) = refl
+ret_same (RVec a) (RWORegister b) = refl
+ret_same (RVec a) (RVec b) = stack_ret_same a b
 
 -- the families in which a right return is the object's answer: all of these
 

@@ -1,5 +1,5 @@
 -- What the code's definitions mean: two words and the items hold a state, and placing does what the abstract object does.
-use Rattle.std.specs.Prelude.{◌≡◌, List, [], ◌∷◌, length, ℤ}
+use Rattle.std.specs.Prelude.{◌≡◌, List, [], ◌∷◌, length, ℤ, Option, Some, None, Ok}
 use Rattle.std.proofs.Math.Path.{refl, ap}
 use Rattle.std.proofs.Common.{sym, ◌∙◌}
 use Rattle.values.specs.Sizes.{room}
@@ -11,15 +11,12 @@ use Rattle.families.specs.Placing.{once_of, held_once, held_of, kind_of, answer_
 use Rattle.families.specs.Refusals.{op_belongs}
 use Rattle.objects.specs.Storage.{storage_answers, storage_leaves}
 use Rattle.families.specs.Room.{Fits, own_op}
-use Rattle.values.specs.declared.value.Maybe.{Maybe}
-use Rattle.values.specs.declared.value.Maybe.TheVariants.{Nothing, Value}
 use Rattle.families.specs.declared.Kind.{Kind}
 use Rattle.families.specs.declared.Kind.TheVariants.{Register, WORegister, Vec}
 use Rattle.families.specs.declared.Op.{Op}
 use Rattle.families.specs.declared.Op.TheVariants.{Register as ORegister, WORegister as OWORegister, Vec as OVec}
 use Rattle.families.specs.declared.Ret.{Ret}
 use Rattle.values.specs.declared.held.Held.{Held}
-use Rattle.values.specs.declared.refusal.Check.TheVariants.{Clear}
 
 -- What an object holds.
 unfoldable pub state_of : Kind → List ℤ → State
@@ -41,10 +38,10 @@ state_by_lem (Vec d) h items = refl
 
 -- two words hold what they were made from
 
-once_held : (m : Maybe) → once_of (held_once m) ≡ m
+once_held : (m : Option ℤ) → once_of (held_once m) ≡ m
 unfolding once_of held_once
-once_held Nothing = refl
-once_held (Value v) = refl
+once_held None = refl
+once_held (Some v) = refl
 
 pub kind_held : (k : Kind) → kind_of k (held_of k) ≡ k
 unfolding kind_of held_of
@@ -57,7 +54,7 @@ kind_held (Vec d) = refl
 abbrev pub Alike : Kind → Kind → Type 0
 Alike k l = family_of k ≡ family_of l
 
-pub alike_op : (k l : Kind) (op : Op) → Alike k l → op_belongs k op ≡ Clear → op_belongs l op ≡ Clear
+pub alike_op : (k l : Kind) (op : Op) → Alike k l → op_belongs k op ≡ Ok tt → op_belongs l op ≡ Ok tt
 alike_op k l op a b = (own_op l op).1 ((own_op k op).0 b ∙ a)
 
 pub alike_kind : (k : Kind) (h : Held) → Alike k (kind_of k h)
@@ -66,9 +63,9 @@ alike_kind (Register v) h = refl
 alike_kind (WORegister m) h = refl
 alike_kind (Vec d) h = refl
 
-pub first_listed : (m : Maybe) → first (listed m) ≡ m
-first_listed Nothing = refl
-first_listed (Value v) = refl
+pub first_listed : (m : Option ℤ) → first (listed m) ≡ m
+first_listed None = refl
+first_listed (Some v) = refl
 
 module _ (items : List ℤ) (full : length items ≡ room) where
   answers_by : (op : Op) (h : Held) → answer_of items h op ≡ answers (state_by (op_family op) h items) op
@@ -87,11 +84,11 @@ module _ (items : List ℤ) (full : length items ≡ room) where
       → state_by (op_family op) (held_after h op) (leaves_of items h op) ≡ after (state_by (op_family op) h items) op
   unfolding op_family held_after leaves_of after state_by
   leaves_by (ORegister p) h f = refl
-  leaves_by (OWORegister p) h f = ap listed (once_held (once_after (once_of h) p) ∙ ap (λ (m : Maybe). once_after m p) (sym (first_listed (once_of h))))
+  leaves_by (OWORegister p) h f = ap listed (once_held (once_after (once_of h) p) ∙ ap (λ (m : Option ℤ). once_after m p) (sym (first_listed (once_of h))))
   leaves_by (OVec p) h f = storage_leaves items full h.height p f
 
   -- an operation that belongs to an object of the family of k
-  module _ (k : Kind) (op : Op) (own : op_belongs k op ≡ Clear) where
+  module _ (k : Kind) (op : Op) (own : op_belongs k op ≡ Ok tt) where
     state_op : (h : Held) (is : List ℤ) → state_of (kind_of k h) is ≡ state_by (op_family op) h is
     state_op h is = state_by_lem k h is ∙ ap (λ (f : Family). state_by f h is) (sym ((own_op k op).0 own))
 

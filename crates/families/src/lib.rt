@@ -4,21 +4,20 @@
 
 pub mod codes;
 pub mod event;
-mod family;
+pub mod family;
 pub mod placing;
 pub mod refusal;
 
-ghost use Rattle.std.specs.Prelude.{◌≡◌, pos};
+ghost use Rattle.std.specs.Prelude.{◌≡◌, pos, None};
 ghost use Rattle.families.specs.Objects.{zeros, new_register, new_once, new_stack, stand_in, no_op, no_ret};
 
 use objects::register::{RegisterOp, RegisterRet};
 use objects::vec::{VecOp, VecRet};
 use objects::write_once_register::{WORegisterOp, WORegisterRet};
 use values::sizes::ROOM;
-use values::value::Maybe;
 
 // An operation names its family and, inside it, its own operation.
-#[derive(Clone, Copy)]
+#[derive(Clone, Copy, Debug, PartialEq, Eq)]
 pub enum Op {
     Register(RegisterOp),
     WORegister(WORegisterOp),
@@ -26,39 +25,39 @@ pub enum Op {
 }
 
 // A return likewise.
-#[derive(Clone, Copy)]
+#[derive(Clone, Copy, Debug, PartialEq, Eq)]
 pub enum Ret {
     Register(RegisterRet),
     WORegister(WORegisterRet),
     Vec(VecRet),
 }
 
-// What stands in a place of an array that no operation has taken.
+// What stands in a place of an array that no operation has taken: with no heap, a rule of the project, an array is
+// full from the start.
 pub fn no_op() -> Op
     ensures { result ≡ no_op }
 {
-    let write = RegisterOp::Write(0);
-    Op::Register(write)
+    Op::Register(RegisterOp::Write(0))
 }
 
 // And in one that no return has.
 pub fn no_ret() -> Ret
     ensures { result ≡ no_ret }
 {
-    let ok = RegisterRet::WriteOk;
-    Ret::Register(ok)
+    Ret::Register(RegisterRet::WriteOk)
 }
 
 // What an object is and, but for a stack's items, what it holds: a register its value, a write-once
 // register nothing or a value, a stack its depth.
-#[derive(Clone, Copy)]
+#[derive(Clone, Copy, Debug, PartialEq, Eq)]
 pub enum Kind {
     Register(i32),
-    WORegister(Maybe),
+    WORegister(Option<i32>),
     Vec(u32),
 }
 
-// An object; the items are a stack's storage, bottom first.
+// An object; the items are a stack's storage, bottom first: with no heap, a rule of the project, an array of all the
+// room, and the depth in the kind.
 #[derive(Clone, Copy)]
 pub struct Object {
     pub kind: Kind,
@@ -67,33 +66,36 @@ pub struct Object {
 
 impl Object {
     // A register that holds a value; by default 0.
+    #[tactic(auto, unfolding(crate::specs::Objects::new_register))]
     pub fn register(value: i32) -> Self
         ensures { result ≡ new_register value }
     {
-        let kind = Kind::Register(value);
         Self {
-            kind,
+            kind: Kind::Register(value),
             items: [0; ROOM],
         }
     }
 
     // A write-once register; by default it holds nothing.
-    pub fn write_once_register(stored: Maybe) -> Self
+    #[tactic(auto, unfolding(crate::specs::Objects::new_once))]
+    pub fn write_once_register(stored: Option<i32>) -> Self
         ensures { result ≡ new_once stored }
     {
-        let kind = Kind::WORegister(stored);
         Self {
-            kind,
+            kind: Kind::WORegister(stored),
             items: [0; ROOM],
         }
     }
 
     // A stack of the first `depth` items, bottom first.
+    #[tactic(auto, unfolding(crate::specs::Objects::new_stack))]
     pub fn stack(items: [i32; ROOM], depth: u32) -> Self
         ensures { result ≡ new_stack items depth }
     {
-        let kind = Kind::Vec(depth);
-        Self { kind, items }
+        Self {
+            kind: Kind::Vec(depth),
+            items,
+        }
     }
 
     pub fn default_register() -> Self
@@ -103,20 +105,19 @@ impl Object {
     }
 
     pub fn default_write_once_register() -> Self
-        ensures { result ≡ new_once Maybe.Nothing }
+        ensures { result ≡ new_once None }
     {
-        let stored = Maybe::Nothing;
-        Object::write_once_register(stored)
+        Object::write_once_register(None)
     }
 
     pub fn default_stack() -> Self
         ensures { result ≡ new_stack zeros 0 }
     {
-        let items = [0; ROOM];
-        Object::stack(items, 0)
+        Object::stack([0; ROOM], 0)
     }
 
     // The default of the family of `kind`, which stands in for an object that a tester can't start with.
+    #[tactic(auto, unfolding(crate::specs::Objects::stand_in))]
     pub fn stand_in(kind: Kind) -> Self
         ensures { result ≡ stand_in kind }
     {

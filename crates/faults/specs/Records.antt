@@ -1,13 +1,12 @@
 -- Records that no calls make, for number 9 of document 01. Each definition is of records that differ in one thing: one has a fault, and its neighbour
 -- has none. All are of a linearizability tester; a sequential one has the same history and no notes.
-use Rattle.std.specs.Prelude.{ℕ, ◌+◌, ◌*◌, ◌-◌, true, List, set, replicate, pos}
+use Rattle.std.specs.Prelude.{ℕ, ◌+◌, ◌*◌, ◌-◌, true, List, set, replicate, pos, Some, None}
 use Rattle.values.specs.Sizes.{threads, capacity}
 use Rattle.families.specs.Objects.{zeros, new_register, new_stack}
 use Rattle.families.specs.declared.Op.{Op}
 use Rattle.families.specs.declared.Op.TheVariants.{Register as ORegister}
 use Rattle.families.specs.declared.Ret.{Ret}
 use Rattle.families.specs.declared.Ret.TheVariants.{Register as RRegister}
-use Rattle.families.specs.declared.placing.Outcome.TheVariants.{Pending, Returned}
 use Rattle.objects.specs.declared.register.RegisterOp.TheVariants.{Read}
 use Rattle.objects.specs.declared.register.RegisterRet.TheVariants.{ReadOk}
 use Rattle.stepping.specs.declared.histories.Operation.{Operation}
@@ -19,7 +18,7 @@ use Rattle.recording.specs.Testers.{linearizability}
 
 -- an operation of thread t in flight
 abbrev pub calling : ℕ → Op → Operation
-calling t op = operation t op Pending
+calling t op = operation t op None
 
 -- a Read of thread t in flight
 abbrev pub reading : ℕ → Operation
@@ -27,7 +26,7 @@ reading t = calling t (ORegister Read)
 
 -- a Read of thread t with that return
 abbrev pub answer : ℕ → Ret → Operation
-answer t ret = operation t (ORegister Read) (Returned ret)
+answer t ret = operation t (ORegister Read) (Some ret)
 
 -- a Read of 0 by thread t
 abbrev pub read : ℕ → Operation

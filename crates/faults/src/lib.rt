@@ -7,7 +7,6 @@ ghost use Rattle.stepping.specs.Record.{blank_operation};
 ghost use Rattle.recording.specs.Testers.{sequential as sequential_of};
 ghost use Rattle.faults.specs.Records.{calling as calling_of, reading as reading_of, answer as answer_of, read as read_of, counters as counters_of, one_note, record_of, starting as starting_of, filled as filled_of, asked as asked_of, returned as returned_of, noting as noting_of, flying as flying_of, overtaken as overtaken_of, held as held_of};
 
-use families::placing::Outcome;
 use families::{Object, Op, Ret, no_op};
 use objects::register::{RegisterOp, RegisterRet};
 use recording::linearizability::LinearizabilityTester;
@@ -20,24 +19,17 @@ use values::sizes::{OPERATIONS, ROOM, THREADS};
 fn untaken() -> Operation
     ensures { result ≡ blank_operation }
 {
-    let op = no_op();
-    let outcome = Outcome::Pending;
-    Operation {
-        thread: 0,
-        op,
-        outcome,
-    }
+    calling(0, no_op())
 }
 
 // An operation in flight.
 fn calling(thread: u8, op: Op) -> Operation
     ensures { result ≡ calling_of thread op }
 {
-    let outcome = Outcome::Pending;
     Operation {
         thread,
         op,
-        outcome,
+        outcome: None,
     }
 }
 
@@ -45,22 +37,16 @@ fn calling(thread: u8, op: Op) -> Operation
 fn reading(thread: u8) -> Operation
     ensures { result ≡ reading_of thread }
 {
-    let read = RegisterOp::Read;
-    let op = Op::Register(read);
-    calling(thread, op)
+    calling(thread, Op::Register(RegisterOp::Read))
 }
 
 // A Read with that return.
 fn answer(thread: u8, ret: Ret) -> Operation
     ensures { result ≡ answer_of thread ret }
 {
-    let read = RegisterOp::Read;
-    let op = Op::Register(read);
-    let outcome = Outcome::Returned(ret);
     Operation {
-        thread,
-        op,
-        outcome,
+        outcome: Some(ret),
+        ..reading(thread)
     }
 }
 
@@ -68,9 +54,7 @@ fn answer(thread: u8, ret: Ret) -> Operation
 fn read(thread: u8) -> Operation
     ensures { result ≡ read_of thread }
 {
-    let zero = RegisterRet::ReadOk(0);
-    let ret = Ret::Register(zero);
-    answer(thread, ret)
+    answer(thread, Ret::Register(RegisterRet::ReadOk(0)))
 }
 
 // The counter of a thread as it is said.
@@ -85,15 +69,15 @@ fn counted(mut done: [u8; THREADS], thread: u8, n: u8) -> [u8; THREADS]
 }
 
 // No operations are counted, but those of two threads.
+#[tactic(auto, unfolding(crate::specs::Records::counters))]
 fn counters(first: u8, n: u8, second: u8, m: u8) -> [u8; THREADS]
     ensures { result ≡ counters_of first n second m }
 {
-    let none = [0; THREADS];
-    let done = counted(none, first, n);
-    counted(done, second, m)
+    counted(counted([0; THREADS], first, n), second, m)
 }
 
 // No notes, but at one place.
+#[tactic(auto, unfolding(crate::specs::Records::one_note))]
 fn one_note(place: usize, note: u8) -> [u8; NOTES]
     ensures { result ≡ one_note place note }
 {
@@ -105,6 +89,7 @@ fn one_note(place: usize, note: u8) -> [u8; NOTES]
 }
 
 // A record of a register: two operations, of which so many are held.
+#[tactic(auto, unfolding(crate::specs::Records::record_of))]
 fn of_two(
     first: Operation,
     second: Operation,
@@ -129,6 +114,7 @@ fn of_two(
 }
 
 // Nothing recorded, of a stack of that depth.
+#[tactic(auto, unfolding(crate::specs::Records::starting))]
 pub fn starting(depth: u32) -> LinearizabilityTester
     ensures { result ≡ starting_of depth }
 {
@@ -149,6 +135,7 @@ pub fn starting(depth: u32) -> LinearizabilityTester
 
 // As many completed Reads of thread 0 as a tester holds, and the count that is said; the last one notes so many of the
 // last thread.
+#[tactic(auto, unfolding(crate::specs::Records::filled))]
 pub fn filled(count: usize, note: u8) -> LinearizabilityTester
     ensures { result ≡ filled_of count note }
 {
@@ -167,6 +154,7 @@ pub fn filled(count: usize, note: u8) -> LinearizabilityTester
 }
 
 // One operation in flight, and the count that is said.
+#[tactic(auto, unfolding(crate::specs::Records::asked))]
 pub fn asked(thread: u8, op: Op, count: usize) -> LinearizabilityTester
     ensures { result ≡ asked_of thread op count }
 {
@@ -180,6 +168,7 @@ pub fn asked(thread: u8, op: Op, count: usize) -> LinearizabilityTester
 }
 
 // One Read with that return, counted, and the counter of a thread as it is said.
+#[tactic(auto, unfolding(crate::specs::Records::returned))]
 pub fn returned(thread: u8, ret: Ret, counter: u8, counted: u8) -> LinearizabilityTester
     ensures { result ≡ returned_of thread ret counter counted }
 {
@@ -193,6 +182,7 @@ pub fn returned(thread: u8, ret: Ret, counter: u8, counted: u8) -> Linearizabili
 }
 
 // A completed Read of thread 0, and then one in flight that notes so many of thread `other`.
+#[tactic(auto, unfolding(crate::specs::Records::noting))]
 pub fn noting(own: u8, other: u8, note: u8) -> LinearizabilityTester
     ensures { result ≡ noting_of own other note }
 {
@@ -206,6 +196,7 @@ pub fn noting(own: u8, other: u8, note: u8) -> LinearizabilityTester
 }
 
 // A Read of thread 0 in flight, and then another one that notes so many of thread 0.
+#[tactic(auto, unfolding(crate::specs::Records::flying))]
 pub fn flying(own: u8, note: u8) -> LinearizabilityTester
     ensures { result ≡ flying_of own note }
 {
@@ -219,6 +210,7 @@ pub fn flying(own: u8, note: u8) -> LinearizabilityTester
 }
 
 // A Read of thread 0 in flight, and then a completed one.
+#[tactic(auto, unfolding(crate::specs::Records::overtaken))]
 pub fn overtaken(own: u8) -> LinearizabilityTester
     ensures { result ≡ overtaken_of own }
 {
@@ -232,6 +224,7 @@ pub fn overtaken(own: u8) -> LinearizabilityTester
 }
 
 // Completed Reads of threads 0 and 1, and the count that is said.
+#[tactic(auto, unfolding(crate::specs::Records::held))]
 pub fn held(count: usize) -> LinearizabilityTester
     ensures { result ≡ held_of count }
 {
@@ -248,6 +241,7 @@ pub fn held(count: usize) -> LinearizabilityTester
 pub fn without_notes(tester: LinearizabilityTester) -> SequentialConsistencyTester
     ensures { result ≡ sequential_of tester.history }
 {
-    let history = tester.history;
-    SequentialConsistencyTester { history }
+    SequentialConsistencyTester {
+        history: tester.history,
+    }
 }

@@ -1,35 +1,52 @@
 -- The values of a start, one after the other.
-use Rattle.std.proofs.Common.{ℕ, suc, ◌+◌, ◌-◌, ◌<◌, ◌≤◌, ◌^◌, ◌≡◌, ◌∙◌, List, arith, ℤ, w32, to_z, of_z, to_z-of_z}
+use Rattle.std.proofs.Common.{ℕ, suc, ◌+◌, ◌-◌, ◌<◌, ◌≤◌, ◌^◌, ◌≡◌, refl, sym, ◌∙◌, List, ℤ, Result, Ok, Err, arith, w32, to_z, of_z, to_z-of_z}
 use Rattle.std.specs.Prelude.{set}
 use Rattle.std.specs.Int.Signed.{mag}
 use mir.Val.{hbits}
 use Rattle.values.specs.Value.{signed}
 use Rattle.numbers.specs.declared.refusal.Refusal.{Refusal}
-use Rattle.numbers.specs.Reader.{got, refused, from}
+use Rattle.numbers.specs.Reader.{got, refused, Reader, from}
+use Rattle.format.specs.declared.cursor.Cursor.{Cursor}
 use Rattle.format.specs.Format.{value, values_from}
 use Rattle.format.specs.Fields.{from_give, then_got, then_refused}
+use Rattle.format.specs.Reads.{Reads}
 
 -- the number of the bits of a value is the value
 pub told : (z : ℤ) (n : ℕ) → mag z < 2 ^ hbits w32 → z ≡ signed n → to_z w32 (of_z w32 z) ≡ signed n
 told z n h e = to_z-of_z {w = w32} (record { sfits = h }) ∙ e
 
-module _ (s : List ℕ) (count i at : ℕ) (items : List ℤ) where
-  module _ (more : i < count) where
-    one_more : count - i ≡ suc (count - (i + 1))
-    one_more = omega arith
+one_more : (count i : ℕ) → i < count → count - i ≡ suc (count - (i + 1))
+one_more count i h = omega arith
 
-    pub values_more : (v : ℤ) (next : ℕ) → from value s at ≡ got v next
-        → from (values_from (count - i) i items) s at ≡ from (values_from (count - (i + 1)) (i + 1) (set items i v)) s next
+-- What is left to read at b says the same as the whole at a.
+pub record Left {A : Type 0} (f : Reader A) (a : Cursor) (g : Reader A) (b : Cursor) : Type 0 where
+  pub same : b.bytes ≡ a.bytes
+  pub left : from g b.bytes.now b.at ≡ from f a.bytes.now a.at
+
+pub left_all : {A : Type 0} (f g : Reader A) (a : Cursor) → g ≡ f → Left f a g a
+left_all f g a e = record { same = refl; left = rw e refl }
+
+module _ {f : Reader (List ℤ)} {a b : Cursor} {count i : ℕ} (items : List ℤ) (l : Left f a (values_from (count - i) i items) b) where
+  module _ (more : i < count) {c : Cursor} {s : Result ℤ Refusal} (k : Reads value b c s) where
+    pub left_more : {v : ℤ} → s ≡ Ok v → Left f a (values_from (count - (i + 1)) (i + 1) (set items i v)) c
     unfolding values_from
-    values_more v next e =
-        rw one_more (then_got value (λ x. values_from (count - (i + 1)) (i + 1) (set items i x)) s at v next e)
+    left_more {v} e =
+        let said : from value b.bytes.now b.at ≡ got v c.at = rw e at k.said in
+        let whole = rw (one_more count i more) at l.left in
+        let rest = then_got value (λ x. values_from (count - (i + 1)) (i + 1) (set items i x)) b.bytes.now b.at v c.at said in
+        record { same = k.same ∙ l.same; left = rw k.same (sym rest ∙ whole) }
 
-    pub values_refused : (why : Refusal) → from value s at ≡ refused why → from (values_from (count - i) i items) s at ≡ refused why
+    pub left_refused : {why : Refusal} → s ≡ Err why → Reads f a c (Err why)
     unfolding values_from
-    values_refused why e = rw one_more (then_refused value (λ x. values_from (count - (i + 1)) (i + 1) (set items i x)) s at why e)
+    left_refused {why} e =
+        let said : from value b.bytes.now b.at ≡ refused why = rw e at k.said in
+        let whole = rw (one_more count i more) at l.left in
+        let rest = then_refused value (λ x. values_from (count - (i + 1)) (i + 1) (set items i x)) b.bytes.now b.at why said in
+        record { same = k.same ∙ l.same; said = sym whole ∙ rest }
 
-  pub values_end : count ≤ i → from (values_from (count - i) i items) s at ≡ got items at
+  pub left_none : count ≤ i → Reads f a b (Ok items)
   unfolding values_from
-  values_end k =
+  left_none h =
       let z : count - i ≡ 0 = omega arith in
-      rw z (from_give s at items)
+      let whole = rw z at l.left in
+      record { same = l.same; said = sym whole ∙ from_give b.bytes.now b.at items }

@@ -1,5 +1,5 @@
 -- What a file can say: its header an object that a tester starts with, and its events operations and returns of that object's family.
-use Rattle.std.specs.Prelude.{ℕ, ◌/◌, ◌%◌, ◌≤◌, ◌≡◌, refl, Bool, true, false, List, ltb, eqb, length, drop}
+use Rattle.std.specs.Prelude.{ℕ, ◌/◌, ◌%◌, ◌≤◌, ◌≡◌, refl, Bool, true, false, List, ltb, eqb, length, drop, Ok}
 use Rattle.std.proofs.Common.{arith, ltb-false}
 use Rattle.history.specs.Events.{Event, invoked, returned}
 use Rattle.values.specs.Value.{pick}
@@ -20,7 +20,6 @@ use Rattle.families.specs.declared.Kind.{Kind}
 use Rattle.families.specs.declared.Object.{Object}
 use Rattle.families.specs.declared.Op.{Op}
 use Rattle.families.specs.declared.Ret.{Ret}
-use Rattle.values.specs.declared.refusal.Check.TheVariants.{Clear}
 use Rattle.numbers.specs.declared.refusal.Refusal.{Refusal}
 use Rattle.numbers.specs.declared.refusal.Refusal.TheVariants.{TooLong, Unopened, Unknown, StartTooDeep}
 use Rattle.numbers.specs.Reader.{Read, got, refused, Reader, later, from, give, refuse, behind, ◌then◌}
@@ -106,7 +105,7 @@ payload_few n Flagged = after_says Few number (flagged n) (flagged_few n)
 -- a header's object
 
 abbrev Starts : Object → Type 0
-Starts o = start_check o.kind ≡ Clear
+Starts o = start_check o.kind ≡ Ok tt
 
 single_starts : (n : ℕ) (f : Form) → Always Starts (single_start n f)
 unfolding single_start
@@ -147,21 +146,21 @@ header_starts s = go (ltb longest (length s)) (opens s)
     go false false = tt
 
 -- The object of a header is one that a tester starts with.
-pub header_clear : (s : List ℕ) (o : Object) (n : ℕ) → header s ≡ got o n → start_check o.kind ≡ Clear
+pub header_clear : (s : List ℕ) (o : Object) (n : ℕ) → header s ≡ got o n → start_check o.kind ≡ Ok tt
 header_clear s o n e = rw e at (header_starts s)
 
 -- the operation or the return of an event belongs to the object
 
 module _ (k : Kind) where
   abbrev OpOf : Op → Type 0
-  OpOf op = op_belongs k op ≡ Clear
+  OpOf op = op_belongs k op ≡ Ok tt
 
   abbrev RetOf : Ret → Type 0
-  RetOf ret = ret_belongs k ret ≡ Clear
+  RetOf ret = ret_belongs k ret ≡ Ok tt
 
   abbrev pub Belongs : Event families → Type 0
-  Belongs (invoked t op) = op_belongs k op ≡ Clear
-  Belongs (returned t ret) = ret_belongs k ret ≡ Clear
+  Belongs (invoked t op) = op_belongs k op ≡ Ok tt
+  Belongs (returned t ret) = ret_belongs k ret ≡ Ok tt
 
   operation_belongs : Always OpOf (operation k)
   unfolding operation operation_of

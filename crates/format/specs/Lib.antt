@@ -1,7 +1,9 @@
 pub mod Format
 pub mod ReadAnswers
-pub mod Fields
+pub mod Reads
+pub mod Told
 pub mod Answered
+pub mod Fields
 pub mod SameBytes
 pub mod Taking
 pub mod Lengths

@@ -1,6 +1,9 @@
 -- Bytes that are the same are equal.
+use Rattle.std.specs.List.{starts_with}
 use Rattle.std.specs.Prelude.{ℕ, ◌≡◌, refl, Bool, true, false, List, [], ◌∷◌, eqb, length, take}
 use Rattle.std.proofs.Common.{sym, arith, eqb-true, eq-eqb}
+use Rattle.std.proofs.lemmas.Bool.Decides.{Decides-eqb}
+use Rattle.std.proofs.lemmas.Slice.Eq.{slice_eq-Decides}
 use Rattle.values.specs.Value.{pick}
 use Rattle.format.specs.Format.{opening, same_bytes, opens}
 
@@ -30,3 +33,9 @@ said_same s false h k = go (same_bytes (take (length opening) s) opening) refl
     go : (x : Bool) → same_bytes (take (length opening) s) opening ≡ x → false ≡ x
     go true e = k (same_true (take (length opening) s) opening e)
     go false e = refl
+
+-- the library's test
+pub said_opens : (s : List ℕ) (r : Bool) → r ≡ starts_with eqb s opening → r ≡ opens s
+said_opens s r e =
+    let d = slice_eq-Decides Decides-eqb opening (take (length opening) s) r e in
+    said_same s r (λ t. sym (d.0 t)) (λ t. d.1 (sym t))

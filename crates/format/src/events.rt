@@ -1,51 +1,40 @@
 // Reading an event.
 ghost use Rattle.std.specs.Prelude.{◌≡◌};
 ghost use Rattle.format.specs.Format.{event};
-ghost use Rattle.format.specs.ReadAnswers.{as_event};
+ghost use Rattle.format.specs.Reads.{Reads};
+ghost use Rattle.format.specs.ReadAnswers.{event_said, as_event};
 
-use crate::operations::{OpRead, op_at};
-use crate::returns::{RetRead, ret_at};
+use crate::cursor::Cursor;
 use families::Kind;
 use families::event::Event;
+use numbers::Got;
 use numbers::refusal::Refusal;
-use numbers::{NumberRead, read_number};
 
-// An event, and how many bytes it took.
-#[derive(Clone, Copy)]
-pub enum EventRead {
-    Event { event: Event, used: usize },
-    Refused(Refusal),
-}
-
-// The event that opens the rest of a file, of the family of `kind`; it is read whole.
-pub fn read_event(rest: &[u8], kind: Kind) -> EventRead
-    ensures { result ≡ as_event (event kind rest.now) }
-{
-    let head = read_number(rest);
-    match head {
-        NumberRead::Refused(why) => EventRead::Refused(why),
-        NumberRead::Number { value, next } => {
-            let thread = value / 2;
-            if value % 2 == 0 {
-                let invoked = op_at(rest, next, kind);
-                match invoked {
-                    OpRead::Refused(why) => {
-                        return EventRead::Refused(why);
-                    }
-                    OpRead::Op { op, next: used } => {
-                        let event = Event::Invoked { thread, op };
-                        return EventRead::Event { event, used };
-                    }
-                }
-            }
-            let returned = ret_at(rest, next, kind);
-            match returned {
-                RetRead::Refused(why) => EventRead::Refused(why),
-                RetRead::Ret { ret, next: used } => {
-                    let event = Event::Returned { thread, ret };
-                    EventRead::Event { event, used }
-                }
-            }
+impl Cursor<'_> {
+    // An event, of the family of `kind`; it is read whole.
+    fn event(&mut self, kind: Kind) -> Result<Event, Refusal>
+        ensures { Reads (event_said kind) self.old self.new result }
+    {
+        let head = self.number()?;
+        let thread = head / 2;
+        if head % 2 == 0 {
+            let op = self.told(kind)?;
+            Ok(Event::Invoked { thread, op })
+        } else {
+            let ret = self.told(kind)?;
+            Ok(Event::Returned { thread, ret })
         }
     }
+}
+
+// The event that opens the rest of a file, of the family of `kind`.
+pub fn read_event(rest: &[u8], kind: Kind) -> Result<Got<Event>, Refusal>
+    ensures { result ≡ as_event (event kind rest.now) }
+{
+    let mut cursor = Cursor::new(rest, 0);
+    let value = cursor.event(kind)?;
+    Ok(Got {
+        value,
+        next: cursor.at,
+    })
 }

@@ -1,168 +1,92 @@
 // The header: the opening, the object and what it starts with.
-ghost use Rattle.std.specs.Prelude.{◌≡◌, ◌≤◌, length};
+ghost use Rattle.std.specs.Prelude.{◌≡◌, ◌≤◌};
 ghost use Rattle.values.specs.Sizes.{start_room};
-ghost use Rattle.numbers.specs.Reader.{from, refused};
-ghost use Rattle.format.specs.Format.{single_start, values, counted_start, start_by, start, header};
-ghost use Rattle.format.specs.ReadAnswers.{as_header};
+ghost use Rattle.numbers.specs.Reader.{as_read};
+ghost use Rattle.format.specs.Format.{single_start, values, counted_start, start, header};
+ghost use Rattle.format.specs.Reads.{Reads};
 
-use crate::opening::{OPENING, is_opened};
-use crate::payload::{PayloadRead, payload_at};
-use crate::places::number_at;
+use crate::cursor::Cursor;
 use families::Object;
 use families::codes::{start_form, start_from};
-use numbers::NumberRead;
+use numbers::Got;
 use numbers::refusal::Refusal;
 use values::coded::{Coded, Form, StartForm};
 use values::sizes::{ROOM, START};
-use values::value::signed_of;
 
 // A file has at most this many bytes.
 pub const LONGEST: usize = 65536;
 
-// Where the events begin, or why there is no header.
-#[derive(Clone, Copy)]
-pub enum Begins {
-    At(usize),
-    Refused(Refusal),
-}
+// The bytes that open a file, 52 41 57 31.
+const OPENING: &[u8] = b"RAW1";
 
-// The initial object; the default register where the header is refused.
-#[derive(Clone, Copy)]
-pub struct Header {
-    pub begins: Begins,
-    pub start: Object,
-}
+#[tactic(auto, using(crate::proofs::Reading::steps), unfolding(crate::specs::Format::single_start, crate::specs::Format::counted_start, crate::specs::Format::start))]
+impl Cursor<'_> {
+    // A start that is a number, or a flag and a number; there are no items then.
+    fn single_start(&mut self, number: u32, form: Form) -> Result<Object, Refusal>
+        ensures { Reads (single_start number form) self.old self.new result }
+    {
+        let coded = self.payload(number, form)?;
+        Ok(start_from(coded, [0; ROOM]))
+    }
 
-// A header that is refused.
-fn refused_for(why: Refusal) -> Header
-    ensures { result ≡ as_header (refused why) }
-{
-    let begins = Begins::Refused(why);
-    let start = Object::default_register();
-    Header { begins, start }
-}
+    // A start of so many values, bottom first.
+    fn values(&mut self, number: u32, count: u32) -> Result<Object, Refusal>
+        requires { count ≤ start_room }
+        ensures { Reads (values number count) self.old self.new result }
+    {
+        let mut items = [0; ROOM];
+        for place in 0..count as usize {
+            items[place] = self.value()?;
+        }
+        let coded = Coded {
+            number,
+            count,
+            word: 0,
+        };
+        Ok(start_from(coded, items))
+    }
 
-// A start that is a number, or a flag and a number; there are no items then.
-fn single_start(file: &[u8], at: usize, number: u32, form: Form) -> Header
-    requires { at ≤ length file.now }
-    ensures { result ≡ as_header (from (single_start number form) file.now at) }
-{
-    let read = payload_at(file, at, number, form);
-    match read {
-        PayloadRead::Refused(why) => refused_for(why),
-        PayloadRead::Payload { coded, next } => {
-            let items = [0; ROOM];
-            let start = start_from(coded, items);
-            let begins = Begins::At(next);
-            Header { begins, start }
+    // A count, and the values; a count that is too high is refused before they are read.
+    fn counted_start(&mut self, number: u32) -> Result<Object, Refusal>
+        ensures { Reads (counted_start number) self.old self.new result }
+    {
+        let count = self.number()?;
+        if START < count {
+            return Err(Refusal::StartTooDeep);
+        }
+        self.values(number, count)
+    }
+
+    // The object, by its number, and its start.
+    fn start(&mut self) -> Result<Object, Refusal>
+        ensures { Reads start self.old self.new result }
+    {
+        let number = self.number()?;
+        match start_form(number) {
+            StartForm::Unknown => Err(Refusal::Unknown),
+            StartForm::Number => self.single_start(number, Form::Number),
+            StartForm::Flagged => self.single_start(number, Form::Flagged),
+            StartForm::Values => self.counted_start(number),
         }
     }
 }
 
-// A start of so many values, bottom first.
-fn read_values(file: &[u8], first: usize, number: u32, count: u32) -> Header
-    requires { (first ≤ length file.now) × (count ≤ start_room) }
-    ensures { result ≡ as_header (from (values number count) file.now first) }
+// The header of a file: the object that it starts with, and where its events begin.
+pub fn read_header(file: &[u8]) -> Result<Got<Object>, Refusal>
+    ensures { result ≡ as_read (header file.now) }
 {
-    let mut items = [0; ROOM];
-    let mut at = first;
-    let mut i: u32 = 0;
-    while i < count {
-        let read = number_at(file, at);
-        match read {
-            NumberRead::Refused(why) => {
-                return refused_for(why);
-            }
-            NumberRead::Number { value, next } => {
-                let v = signed_of(value);
-                let place = i as usize;
-                items[place] = v;
-                at = next;
-                i += 1;
-            }
-        }
-    }
-    let coded = Coded {
-        number,
-        count,
-        word: 0,
-    };
-    let start = start_from(coded, items);
-    let begins = Begins::At(at);
-    Header { begins, start }
-}
-
-// A count, and the values; a count that is too high is refused before they are read.
-fn counted_start(file: &[u8], at: usize, number: u32) -> Header
-    requires { at ≤ length file.now }
-    ensures { result ≡ as_header (from (counted_start number) file.now at) }
-{
-    let read = number_at(file, at);
-    match read {
-        NumberRead::Refused(why) => refused_for(why),
-        NumberRead::Number { value: count, next } => {
-            if START < count {
-                let why = Refusal::StartTooDeep;
-                return refused_for(why);
-            }
-            read_values(file, next, number, count)
-        }
-    }
-}
-
-// What follows the number of an object, where it has that form.
-fn start_at(file: &[u8], at: usize, number: u32, form: StartForm) -> Header
-    requires { at ≤ length file.now }
-    ensures { result ≡ as_header (from (start_by number form) file.now at) }
-{
-    match form {
-        StartForm::Unknown => {
-            let why = Refusal::Unknown;
-            refused_for(why)
-        }
-        StartForm::Number => {
-            let plain = Form::Number;
-            single_start(file, at, number, plain)
-        }
-        StartForm::Flagged => {
-            let plain = Form::Flagged;
-            single_start(file, at, number, plain)
-        }
-        StartForm::Values => counted_start(file, at, number),
-    }
-}
-
-// The object, by its number, and its start.
-fn read_start(file: &[u8], at: usize) -> Header
-    requires { at ≤ length file.now }
-    ensures { result ≡ as_header (from start file.now at) }
-{
-    let read = number_at(file, at);
-    match read {
-        NumberRead::Refused(why) => refused_for(why),
-        NumberRead::Number {
-            value: number,
-            next,
-        } => {
-            let form = start_form(number);
-            start_at(file, next, number, form)
-        }
-    }
-}
-
-// The header of a file.
-pub fn read_header(file: &[u8]) -> Header
-    ensures { result ≡ as_header (header file.now) }
-{
+    let opened = file.starts_with(OPENING);
     let long = LONGEST < file.len();
-    let opened = is_opened(file);
     if long {
-        let why = Refusal::TooLong;
-        return refused_for(why);
+        return Err(Refusal::TooLong);
     }
-    if opened {
-        return read_start(file, OPENING);
+    if !opened {
+        return Err(Refusal::Unopened);
     }
-    let why = Refusal::Unopened;
-    refused_for(why)
+    let mut cursor = Cursor::new(file, OPENING.len());
+    let value = cursor.start()?;
+    Ok(Got {
+        value,
+        next: cursor.at,
+    })
 }

@@ -2,10 +2,8 @@
 // is the table of `families::codes`; nothing here names a family.
 #![tactic(auto)]
 
+mod cursor;
 pub mod events;
 pub mod header;
-mod opening;
-mod operations;
 mod payload;
-mod places;
-mod returns;
+mod told;

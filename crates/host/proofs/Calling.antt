@@ -1,7 +1,11 @@
 -- The ends of the call: nothing is written, or the report.
 use Rattle.std.proofs.Common.{ℕ, suc, ◌≡◌, sym, ap, ◌∙◌, List, ◌++◌, arith, drop}
 use Rattle.host.specs.declared.report.Report.{Report}
-use Rattle.host.specs.Call.{report_of, bytes_of, answer_size, model_of, call_number, call_answer}
+use Rattle.recording_meaning.specs.Models.{Model}
+use Rattle.corpus.specs.declared.load.Loaded.{Loaded}
+use Rattle.corpus.specs.Load.{load_of}
+use Rattle.corpus.specs.LoadAnswers.{as_loaded}
+use Rattle.host.specs.Call.{report_with, report_of, bytes_of, answer_size, model_of, call_number, call_answer}
 use Rattle.host.proofs.CallMeant.{calls}
 
 module _ (file answer : List ℕ) (model budget : ℕ) where
@@ -12,3 +16,9 @@ module _ (file answer : List ℕ) (model budget : ℕ) where
       → out ≡ bytes_of r ++ drop answer_size answer → (0 ≡ call_number model answer) × (out ≡ call_answer file model budget answer)
   written z r e out f =
       (sym z, f ∙ ap (λ (x : Report). bytes_of x ++ drop answer_size answer) e ∙ sym ((calls file model budget answer).answered z))
+
+-- what is reported of a loaded file is what is said of the file
+pub reported_as : (M : Model) (file : List ℕ) (budget : ℕ) (l : Loaded M.Tester) (r : Report) → l ≡ as_loaded M (load_of M file)
+    → r ≡ report_with M.shaped M.history M.needs l budget → r ≡ report_of M file budget
+unfolding report_of
+reported_as M file budget l r e f = rw e at f

@@ -8,7 +8,7 @@ use Rattle.families.specs.Codes.{ret_coded}
 use Rattle.values.specs.Coded.{same_coded}
 use Rattle.families.specs.Family.{family_of, op_family, ret_family, family_number}
 use Rattle.families.specs.Refusals.{family_check, op_belongs, ret_belongs, start_check, shape_check, size_check}
-use Rattle.values.specs.Checks.{is_clear, in_order}
+use Rattle.values.specs.Checks.{in_order}
 use Rattle.families.specs.Objects.{new_register}
 use Rattle.families.specs.States.{state_of}
 use Rattle.stepping.specs.Record.{fresh, is_pending, flying_by, flying_from, find_flying}
@@ -27,7 +27,7 @@ use Rattle.stepping.specs.Shape.{
   notes_fit,
   notes_fit_from,
 }
-use Rattle.stepping.specs.EventSteps.{is_taken, begun_of, invoke_of, return_of}
+use Rattle.stepping.specs.EventSteps.{begun_of, invoke_of, return_of}
 use Rattle.recording.specs.Testers.{
   new_sequential,
   sequential_invoke,
@@ -39,7 +39,7 @@ use Rattle.recording.specs.Testers.{
 use Rattle.shape.specs.Notes.{notes_in, notes_with}
 use Rattle.recording_meaning.specs.Reading.{rows_of, notes_of}
 use Rattle.recording_meaning.specs.Models.{sequential_model, linearizability_model}
-use Rattle.judging.specs.Answers.{number_of, told_of, judged_of, judge_of}
+use Rattle.judging.specs.Answers.{number_of, told_of, judged_of, judge_with}
 use Rattle.corpus.specs.Load.{Load}
 use Rattle.format.specs.TraceFiles.{trace_14}
 use Rattle.corpus.proofs.TraceLoads.{sequential_loads, linearizability_loads}
@@ -48,18 +48,18 @@ use Rattle.host.proofs.CallMeant.{calls}
 use Rattle.host.specs.Trace.{trace_bytes}
 
 sequential_bytes : (budget : ℕ) → 2 ≤ budget → bytes_of (report_of sequential_model trace_14 budget) ≡ trace_bytes
-unfolding zigzag eq_z same_coded register_answer register_after register_ret_coded ret_coded answers right after same_ret family_of op_family ret_family family_number family_check op_belongs ret_belongs is_clear start_check shape_check size_check in_order new_register state_of
+unfolding zigzag eq_z same_coded register_answer register_after register_ret_coded ret_coded answers right after same_ret family_of op_family ret_family family_number family_check op_belongs ret_belongs start_check shape_check size_check in_order new_register state_of
     fresh is_pending flying_by flying_from find_flying done_by count_done all_below outcome_fits operation_fits operations_fit none_of flying_last
-    counts_right shape_of is_taken begun_of invoke_of return_of new_sequential sequential_invoke sequential_return rows_of number_of told_of
-    judged_of judge_of threads_of judged_report report_of head_of bytes_of
+    counts_right shape_of begun_of invoke_of return_of new_sequential sequential_invoke sequential_return rows_of number_of told_of
+    judged_of judge_with threads_of judged_report report_of head_of bytes_of
 sequential_bytes budget h =
     ap (λ (l : Load sequential_model). bytes_of (report_by sequential_model l budget)) sequential_loads ∙ rw (le-leb 2 budget h) refl
 
 linearizability_bytes : (budget : ℕ) → 2 ≤ budget → bytes_of (report_of linearizability_model trace_14 budget) ≡ trace_bytes
-unfolding zigzag eq_z same_coded register_answer register_after register_ret_coded ret_coded answers right after same_ret family_of op_family ret_family family_number family_check op_belongs ret_belongs is_clear start_check shape_check size_check in_order new_register state_of
+unfolding zigzag eq_z same_coded register_answer register_after register_ret_coded ret_coded answers right after same_ret family_of op_family ret_family family_number family_check op_belongs ret_belongs start_check shape_check size_check in_order new_register state_of
     fresh is_pending flying_by flying_from find_flying done_by count_done notable all_below outcome_fits operation_fits operations_fit none_of
-    flying_last counts_right shape_of notes_fit notes_fit_from notes_in is_taken begun_of invoke_of return_of new_linearizability notes_with
-    linearizability_invoke linearizability_return rows_of notes_of number_of told_of judged_of judge_of threads_of judged_report report_of head_of
+    flying_last counts_right shape_of notes_fit notes_fit_from notes_in begun_of invoke_of return_of new_linearizability notes_with
+    linearizability_invoke linearizability_return rows_of notes_of number_of told_of judged_of judge_with threads_of judged_report report_of head_of
     bytes_of
 linearizability_bytes budget h =
     ap (λ (l : Load linearizability_model). bytes_of (report_by linearizability_model l budget)) linearizability_loads ∙ rw (le-leb 2 budget h) refl

@@ -1,12 +1,15 @@
 -- The host call of document 01: the number that it returns, and what it makes of the lent bytes.
-use Rattle.std.specs.Prelude.{ℕ, zero, suc, ◌+◌, ◌/◌, ◌%◌, List, [], ◌∷◌, ◌++◌, map, ltb, eqb, length, drop, replicate}
+use Rattle.std.specs.Prelude.{ℕ, Bool, zero, suc, ◌+◌, ◌/◌, ◌%◌, List, [], ◌∷◌, ◌++◌, map, ltb, eqb, length, drop, replicate}
 use Rattle.values.specs.Sizes.{capacity}
 use Rattle.values.specs.Value.{pick}
+use Rattle.stepping.specs.declared.histories.History.{History}
 use Rattle.recording_meaning.specs.Models.{Model, sequential_model, linearizability_model}
 use Rattle.judging.specs.declared.answer.Answer.{Answer}
 use Rattle.judging.specs.declared.answer.Placed.{Placed}
-use Rattle.judging.specs.Answers.{number_of, nobody_there, judge_of}
+use Rattle.judging.specs.Answers.{number_of, nobody_there, judge_with}
+use Rattle.corpus.specs.declared.load.Loaded.{Loaded}
 use Rattle.corpus.specs.Load.{Load, load_of}
+use Rattle.corpus.specs.LoadAnswers.{as_loaded}
 use Rattle.host.specs.declared.report.Report.{Report}
 
 -- what is reported
@@ -42,8 +45,12 @@ judged_report a = record {
 }
 
 -- What loading comes to: judged if nothing is refused.
+abbrev pub report_with : {T : Type 0} → (T → Bool) → (T → History) → (T → ℕ → List ℕ) → Loaded T → ℕ → Report
+report_with shaped history needs l budget =
+    pick (eqb l.number 0) (judged_report (judge_with shaped history needs l.tester budget)) (refused_report l.number l.place)
+
 abbrev pub report_by : (M : Model) → Load M → ℕ → Report
-report_by M l budget = pick (eqb l.number 0) (judged_report (judge_of M l.tester budget)) (refused_report l.number l.place)
+report_by M l budget = report_with M.shaped M.history M.needs (as_loaded M l) budget
 
 -- A file, by a model.
 unfoldable pub report_of : Model → List ℕ → ℕ → Report

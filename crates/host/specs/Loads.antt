@@ -1,12 +1,10 @@
 -- What the number that loading gives says of the tester that is loaded.
-use Rattle.std.specs.Prelude.{ℕ, ◌≡◌, refl, ◌≢◌, ◌⊎◌, Bool, true, false, ◌&&◌, not, List, [], ◌∷◌, drop}
+use Rattle.std.specs.Prelude.{ℕ, ◌≡◌, refl, ◌≢◌, ◌⊎◌, Bool, true, false, ◌&&◌, not, List, [], ◌∷◌, drop, Result, Ok, Err}
 use Rattle.std.proofs.Common.{ap, ◌∙◌, subst, ⊎_elim, arith}
 use Rattle.history.specs.Lists.{not_both}
 use Rattle.history.specs.Events.{Events}
 use Rattle.families.specs.Families.{families}
 use Rattle.families.specs.declared.Object.{Object}
-use Rattle.stepping.specs.declared.recorded.Recorded.{Recorded}
-use Rattle.stepping.specs.declared.recorded.Recorded.TheVariants.{Taken, Refused}
 use Rattle.stepping.specs.Drawn.{zero_taken, breaks_number}
 use Rattle.stepping.specs.EventSteps.{number_of as recorded_number}
 use Rattle.recording_meaning.specs.Models.{Model}
@@ -27,6 +25,7 @@ use Rattle.corpus.specs.Loaded.{AllRecorded, Outcome, ended, unread, unrecorded}
 use Rattle.corpus.proofs.Loaded.{loaded, not_loaded}
 use Rattle.corpus.proofs.Files.{number_zero, whole_loads}
 use Rattle.host.specs.Ordered.{ordered, sound_verdict, invalid_verdict}
+use Rattle.stepping.specs.declared.recorded.Reason.{Reason}
 
 -- 4 or 5, by number
 abbrev pub Breaking : ℕ → Type 0
@@ -43,12 +42,12 @@ file_refusal Unknown = ⊎_elim (λ e. omega arith) (λ e. omega arith)
 file_refusal StartTooDeep = ⊎_elim (λ e. omega arith) (λ e. omega arith)
 
 -- and a refusal of recording breaks the history if it is one
-recorded_breaks : (r : Recorded) → Breaking (recorded_number r) → broke r ≡ true
+recorded_breaks : (r : Result Unit Reason) → Breaking (recorded_number r) → broke r ≡ true
 unfolding recorded_number
-recorded_breaks Taken = ⊎_elim (λ e. absurd (omega arith)) (λ e. absurd (omega arith))
-recorded_breaks (Refused r) = (breaks_number r).0
+recorded_breaks (Ok tt) = ⊎_elim (λ e. absurd (omega arith)) (λ e. absurd (omega arith))
+recorded_breaks (Err r) = (breaks_number r).0
 
-zero_keeps : (r : Recorded) → recorded_number r ≡ 0 → broke r ≡ false
+zero_keeps : (r : Result Unit Reason) → recorded_number r ≡ 0 → broke r ≡ false
 zero_keeps r e = ap broke (zero_taken r e)
 
 off : (b : Bool) → b && false ≡ false

@@ -10,12 +10,13 @@ use Rattle.theory.specs.Budget.{Verdict as Found, order, no_order, undecided, Ju
 use Rattle.theory.specs.Undoing.{shown_by}
 use Rattle.values.specs.Sizes.{capacity}
 use Rattle.values.specs.Value.{pick}
+use Rattle.stepping.specs.declared.histories.History.{History}
 use Rattle.recording_meaning.specs.Models.{Model}
 use Rattle.judging.specs.declared.answer.Answer.{Answer}
 use Rattle.judging.specs.declared.answer.Placed.{Placed}
 use Rattle.judging.specs.declared.answer.Verdict.{Verdict}
 use Rattle.judging.specs.declared.answer.Verdict.TheVariants.{Order, NoOrder, Undecided, Invalid}
-use Rattle.judging.specs.Answers.{number_of, placed, nobody_there, Placement, with_order, without_order, told, told_of, judged_of, judge_of}
+use Rattle.judging.specs.Answers.{number_of, placed, nobody_there, Placement, with_order, without_order, told, told_of, judged_of, judge_of, judge_with}
 use Rattle.host.specs.Call.{threads_of}
 
 module _ (M : Model) (s : M.Tester) where
@@ -27,7 +28,7 @@ module _ (M : Model) (s : M.Tester) where
 
   -- Every answer of the judge is one of them.
   pub ordered : (b : ℕ) → Ordered (judge_of M s b)
-  unfolding judge_of told_of number_of
+  unfolding judge_with told_of number_of
   ordered b = judges (M.shaped s) (M.history s).valid refl refl (judged_of (M.needs s) (M.history s) b)
     where
       walks : M.shaped s ≡ true → (M.history s).valid ≡ true → (v : Found Placement) (n : ℕ) → Ordered (told v n)
@@ -69,6 +70,24 @@ module _ (M : Model) (s : M.Tester) where
   no_length (with h k n l) d = absurd (d refl)
   no_length (without h k v n e) d = refl
   no_length (invalid u) d = refl
+
+-- The length fits in the places, whatever the tester.
+pub judge_within : {T : Type 0} (shaped : T → Bool) (history : T → History) (needs : T → ℕ → List ℕ) (s : T) (b : ℕ)
+    → (judge_with shaped history needs s b).length ≤ length (judge_with shaped history needs s b).order
+unfolding judge_with told_of without_order
+judge_within shaped history needs s b = go (shaped s) (history s).valid (judged_of (needs s) (history s) b)
+  where
+    walks : (v : Found Placement) (n : ℕ) → (told v n).length ≤ length (told v n).order
+    walks (order p) n = rw (length-append (shown_by placed p) (replicate (capacity - length (shown_by placed p)) nobody_there)) (le-add_right _ _)
+    walks no_order n = omega arith
+    walks undecided n = omega arith
+
+    go : (x y : Bool) (j : Judged Placement)
+        → (pick x (pick y (told_of j) (without_order Invalid 0)) (without_order Invalid 0)).length
+        ≤ length (pick x (pick y (told_of j) (without_order Invalid 0)) (without_order Invalid 0)).order
+    go false y j = omega arith
+    go true false j = omega arith
+    go true true j = walks j.verdict j.attempts
 
 nobody_threads : (k : ℕ) → threads_of (replicate k nobody_there) ≡ replicate k 255
 unfolding threads_of

@@ -1,14 +1,15 @@
--- The loops over a history and over its counters: what they have built so far.
-use Rattle.std.proofs.Common.{ℕ, suc, ◌+◌, ◌*◌, ◌<◌, ◌≤◌, ◌≡◌, refl, sym, ap, ◌∙◌, ◌≢◌, List, [], ◌∷◌, ◌++◌, length, drop, replicate, length-append, length-set, drop_of_length-le, drop-cons, get_or-set_same, get_or-set_other, add-one, arith}
+-- The loop over a history: what it has built so far. The sum of a list.
+use Rattle.std.proofs.Common.{ℕ, suc, ◌+◌, ◌*◌, ◌<◌, ◌≤◌, ◌≡◌, refl, sym, ap, ◌∙◌, ◌≢◌, List, [], ◌∷◌, ◌++◌, length, replicate, length-append, length-set, get_or-set_same, get_or-set_other, add-one, arith}
 use Rattle.std.proofs.Math.ListN.{get_or, get_or-append}
-use Rattle.std.specs.Prelude.{set}
+use Rattle.std.specs.Prelude.{set, sum}
+use Rattle.std.proofs.lemmas.List.Recursion.{is_sum_by}
 use Rattle.std.proofs.Math.Seq.{get_or_at}
 use Rattle.history.specs.Lists.{own_or_other, get_d_same}
 use Rattle.values.specs.Sizes.{threads, capacity}
 use Rattle.stepping.specs.declared.histories.History.{History}
 use Rattle.stepping.specs.Record.{operation_at}
 use Rattle.stepping.specs.Shape.{InShape}
-use Rattle.judging.specs.Places.{places_in, StartedTo, SlottedTo, Indexed, sum_of}
+use Rattle.judging.specs.Places.{places_in, StartedTo, SlottedTo, Started, Slotted, sum_of}
 use Rattle.judging.specs.PlacesLaws.{grown_own, grown_other, places_few}
 
 -- The first i operations are indexed.
@@ -97,17 +98,16 @@ module _ {h : History} {slot started : List ℕ} {i : ℕ} (b : Built h slot sta
     started_long = length-set started own (k + 1) ∙ b.started_long;
   })
 
-pub built_end : (h : History) (slot started : List ℕ) (i : ℕ) → Built h slot started i → h.count ≤ i → Indexed h slot started
-built_end h slot started i b l =
-    let e : i ≡ h.count = omega (arith, b.upto) in
-    record { counts = rw e at b.counts; at = rw e at b.at }
+module _ (h : History) (slot started : List ℕ) (i : ℕ) (b : Built h slot started i) (over : h.count ≤ i) where
+  all : i ≡ h.count
+  all = omega (arith, b.upto)
 
--- the sum of what is left of a list
+  pub all_counted : Started h started
+  all_counted = rw all at b.counts
 
-pub sum_more : (l : List ℕ) (t : ℕ) → t < length l → sum_of (drop t l) ≡ get_or l t 0 + sum_of (drop (t + 1) l)
+  pub all_slotted : Slotted h slot
+  all_slotted = rw all at b.at
+
+pub sum_same : (l : List ℕ) → sum l ≡ sum_of l
 unfolding sum_of
-sum_more l t h = rw (add-one t, drop-cons l t 0 h)
-
-pub sum_end : (l : List ℕ) (t : ℕ) → length l ≤ t → sum_of (drop t l) ≡ 0
-unfolding sum_of
-sum_end l t h = rw (drop_of_length-le l h)
+sum_same l = sym (is_sum_by sum_of (λ n. n) refl (λ _ _. refl) l)

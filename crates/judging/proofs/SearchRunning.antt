@@ -1,7 +1,6 @@
 -- The search loop's invariant: how it begins, what is answered where it ends, and what an attempt that is turned away does to it.
-use Rattle.std.specs.Prelude.{ℕ, ◌+◌, ◌-◌, ◌*◌, ◌≤◌, ◌<◌, ◌≡◌, refl, ◌≢◌, true, false, length, get_or, replicate, ℤ}
+use Rattle.std.specs.Prelude.{ℕ, ◌+◌, ◌-◌, ◌≤◌, ◌<◌, ◌≡◌, refl, ◌≢◌, true, false, length, get_or, replicate, ℤ}
 use Rattle.std.proofs.Common.{sym, ap, ◌∙◌, add-one, arith}
-use Rattle.std.proofs.Math.Option.{some}
 use mathlib.Core.List.{List, [], append-nil}
 use Rattle.theory.specs.Space.{idle, refused}
 use Rattle.theory.specs.Budget.{judge}
@@ -12,9 +11,9 @@ use Rattle.theory.specs.Loop.{levels as levels_above}
 use Rattle.theory.specs.Undoing.{frames, trail_shown}
 use Rattle.theory.specs.Going.{tree_of}
 use Rattle.theory.proofs.Going.{going_root, going_fits, going_skip, going_refused, answer_order, answer_none, answer_open}
-use Rattle.history.specs.Space.{Node, next as next_of, met, all_placed, root}
+use Rattle.history.specs.Space.{Node, met, all_placed, unplaced, root}
 use Rattle.history.specs.Moves.{falls}
-use Rattle.history.proofs.Left.{placed_none, placed_some}
+use Rattle.history.proofs.Left.{placed_none, placed_some, spent}
 use Rattle.values.specs.Sizes.{threads, capacity, room}
 use Rattle.families.specs.Families.{families}
 use Rattle.families.specs.Placing.{held_of, fits_of}
@@ -31,21 +30,21 @@ use Rattle.recording_meaning.specs.ShapeExactly.{shape_exactly}
 use Rattle.judging.specs.declared.answer.Verdict.TheVariants.{Order, NoOrder, Undecided}
 use Rattle.judging.specs.declared.search.Level.{Level}
 use Rattle.judging.specs.Answers.{placed, judged_of}
-use Rattle.judging.specs.Places.{places_of, Indexed, Ready, sum_of}
+use Rattle.judging.specs.Places.{places_of, Started, Ready, sum_of}
 use Rattle.judging.specs.PlacesLaws.{places_few}
 use Rattle.judging.specs.Playing.{situation, origin}
 use Rattle.judging.specs.SearchStops.{Stops}
-use Rattle.judging.specs.Rowing.{entry_at, left_origin, unplaced_origin}
+use Rattle.judging.specs.Rowing.{left_origin, unplaced_origin}
 use Rattle.judging.specs.Leading.{led}
-use Rattle.judging.specs.SearchMachine.{lv_of, node_of, Fits, S, G, U, move_idle, move_open, move_early, move_wrong, is_next, below}
+use Rattle.judging.specs.SearchMachine.{lv_of, node_of, Fits, S, G, U, move_idle, move_open, move_early, move_wrong}
 use Rattle.judging.specs.SearchRunning.{Goes, Running, s}
 
 -- the loop begins
-pub running_start : (needs : ℕ → List ℕ) (h : History) (budget : ℕ) (slot started path : List ℕ) (levels : List Level) (held : Held) (remaining : ℕ)
-    → held ≡ held_of h.start.kind → remaining ≡ sum_of h.done → Sized h → length h.start.items ≡ room → shape_of h ≡ true → Indexed h slot started
+pub running_start : (needs : ℕ → List ℕ) (h : History) (budget : ℕ) (started path : List ℕ) (levels : List Level) (held : Held) (remaining : ℕ)
+    → held ≡ held_of h.start.kind → remaining ≡ sum_of h.done → Sized h → length h.start.items ≡ room → shape_of h ≡ true → Started h started
     → length path ≡ capacity → length levels ≡ capacity
-    → Running needs h budget slot started path levels 0 (situation h.start.items held (replicate threads 0)) remaining 0 0
-running_start needs h budget slot started path levels held remaining e r z i sh ix pl ll = rw e (record {
+    → Running needs h budget started path levels 0 (situation h.start.items held (replicate threads 0)) remaining 0 0
+running_start needs h budget started path levels held remaining e r z i sh ix pl ll = rw e (record {
   going = going_root (S needs h) (G needs h) (U needs h) (origin h) budget (lv_of path levels) (record {
     roomy = room_fewer h.start.kind (held_of h.start.kind) capacity _ (omega (arith, unplaced_origin needs h z sh))
         (start_room_lem h.start.kind ((shape_exactly h z).1 sh).startable);
@@ -57,7 +56,7 @@ running_start needs h budget slot started path levels held remaining e r z i sh 
   left_is = r ∙ sym (left_origin needs h z sh);
   sized = z;
   shape = sh;
-  indexed = ix;
+  counts = ix;
   path_long = pl;
   levels_long = ll;
 })
@@ -70,9 +69,9 @@ judged_from needs h b =
     = rw (rows_many needs h, kind_held h.start.kind) in
     ap (λ (x : Node families). judge b (tree (S needs h) (G needs h).size (falls families (rows_of needs h)) x)) e
 
-module _ {needs : ℕ → List ℕ} {h : History} {budget : ℕ} {slot started path : List ℕ} {levels : List Level} {d : ℕ} {items : List ℤ} {held : Held}
+module _ {needs : ℕ → List ℕ} {h : History} {budget : ℕ} {started path : List ℕ} {levels : List Level} {d : ℕ} {items : List ℤ} {held : Held}
     {progress : List ℕ} {remaining next n : ℕ}
-    (g : Running needs h budget slot started path levels d (situation items held progress) remaining next n) where
+    (g : Running needs h budget started path levels d (situation items held progress) remaining next n) where
   pub fits : Fits needs h d (s g)
   fits = going_fits (S needs h) (G needs h) (U needs h) none_stored g.going
 
@@ -114,7 +113,7 @@ module _ {needs : ℕ → List ℕ} {h : History} {budget : ℕ} {slot started p
         going_skip (S needs h) (G needs h) (U needs h) none_stored next (k - next) k g.going (still unfinished) e (rw (rows_many needs h) b)
         (λ j x y.
         let low : j < threads = omega arith in
-        move_idle needs h g.sized g.shape (s g) d fits j low (omega (arith, r.passed j x y, g.indexed.counts j low)))
+        move_idle needs h g.sized g.shape (s g) d fits j low (omega (arith, r.passed j x y, g.counts j low)))
 
     -- no thread, and no level above
     pub exhausted : threads ≤ k → d ≡ 0 → Stops (judged_of needs h budget) h path (record { verdict = NoOrder; depth = d; attempts = n })
@@ -125,12 +124,8 @@ module _ {needs : ℕ → List ℕ} {h : History} {budget : ℕ} {slot started p
         ∙ answer_none (S needs h) (G needs h) (U needs h) (origin h) at_k (still unfinished) (omega (arith, rows_many needs h)) z
 
     module _ (low : k < threads) where
-      -- the place of the operation
-      abbrev here : ℕ
-      here = get_or slot (k * capacity + get_or progress k 0) 0
-
       pub has : get_or progress k 0 < length (places_of h k)
-      has = omega (arith, r.has low, g.indexed.counts k low)
+      has = omega (arith, r.has low, g.counts k low)
 
       pub low_row : k < length (rows_of needs h)
       low_row = omega (arith, rows_many needs h)
@@ -138,20 +133,15 @@ module _ {needs : ℕ → List ℕ} {h : History} {budget : ℕ} {slot started p
       pub progress_small : get_or progress k 0 < capacity
       progress_small = omega (arith, has, places_few h k h.count, (parts_of h g.shape).few)
 
-      pub slot_at : k * capacity + get_or progress k 0 < threads * capacity
-      slot_at = omega (arith, progress_small)
+      not_idle : (S needs h).move (node_of needs h (s g)) k ≡ idle → ⊥
+      not_idle = move_open needs h g.sized g.shape (s g) d fits k low has _ refl
 
-      pub at_here : get_or (places_of h k) (get_or progress k 0) 0 ≡ get_or slot (k * capacity + get_or progress k 0) 0
-      at_here = sym (g.indexed.at k (get_or progress k 0) low has)
+      -- something is left to place
+      pub some_unplaced : unplaced (rows_of needs h) progress ≢ 0
+      some_unplaced z = not_idle (spent families (rows_of needs h) (node_of needs h (s g)) z k)
 
-      pub here_small : get_or slot (k * capacity + get_or progress k 0) 0 < capacity
-      here_small = omega (arith, below needs h g.sized g.shape (s g) d fits k low has here at_here, (parts_of h g.shape).few)
-
-      pub next_here : next_of (rows_of needs h) progress k ≡ some (entry_at needs h here)
-      next_here = is_next needs h g.sized g.shape (s g) d fits k low has here at_here
-
-      pub not_idle : (S needs h).move (node_of needs h (s g)) k ≡ idle → ⊥
-      not_idle = move_open needs h g.sized g.shape (s g) d fits k low has here at_here
+      pub deeper : d < capacity
+      deeper = omega (arith, fits.deep, some_unplaced)
 
       -- the budget is used up
       pub used : n ≡ budget → Stops (judged_of needs h budget) h path (record { verdict = Undecided; depth = d; attempts = n })
@@ -160,21 +150,22 @@ module _ {needs : ℕ → List ℕ} {h : History} {budget : ℕ} {slot started p
           judged_from needs h budget
           ∙ answer_open (S needs h) (G needs h) (U needs h) (origin h) at_k (still unfinished) low_row not_idle e
 
-      module _ (unused : n ≢ budget) where
-        turned_away : (S needs h).move (node_of needs h (s g)) k ≡ refused → Running needs h budget slot started path levels d (s g) remaining (k + 1) (n + 1)
+      -- its operation stands at place i
+      module _ (i : ℕ) (at : i ≡ get_or (places_of h k) (get_or progress k 0) 0) (unused : n ≢ budget) where
+        turned_away : (S needs h).move (node_of needs h (s g)) k ≡ refused → Running needs h budget started path levels d (s g) remaining (k + 1) (n + 1)
         turned_away e = rw (add-one k, add-one n) (record {
           going = going_refused (S needs h) (G needs h) (U needs h) none_stored at_k (still unfinished) low_row e unused;
           left_is = g.left_is;
           sized = g.sized;
           shape = g.shape;
-          indexed = g.indexed;
+          counts = g.counts;
           path_long = g.path_long;
           levels_long = g.levels_long;
         })
 
-        pub turn_early : met (needs here) progress ≡ false → Running needs h budget slot started path levels d (s g) remaining (k + 1) (n + 1)
-        turn_early e = turned_away (move_early needs h g.sized g.shape (s g) d fits k low has here at_here e)
+        pub turn_early : met (needs i) progress ≡ false → Running needs h budget started path levels d (s g) remaining (k + 1) (n + 1)
+        turn_early e = turned_away (move_early needs h g.sized g.shape (s g) d fits k low has i (sym at) e)
 
-        pub turn_wrong : met (needs here) progress ≡ true → fits_of items held (operation_at h here).op (operation_at h here).outcome ≡ false
-            → Running needs h budget slot started path levels d (s g) remaining (k + 1) (n + 1)
-        turn_wrong m e = turned_away (move_wrong needs h g.sized g.shape (s g) d fits k low has here at_here m e)
+        pub turn_wrong : met (needs i) progress ≡ true → fits_of items held (operation_at h i).op (operation_at h i).outcome ≡ false
+            → Running needs h budget started path levels d (s g) remaining (k + 1) (n + 1)
+        turn_wrong m e = turned_away (move_wrong needs h g.sized g.shape (s g) d fits k low has i (sym at) m e)

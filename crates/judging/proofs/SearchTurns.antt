@@ -1,5 +1,5 @@
 -- What placing an operation and going back over one do to the search loop's invariant.
-use Rattle.std.specs.Prelude.{ℕ, zero, suc, ◌+◌, ◌-◌, ◌*◌, ◌≤◌, ◌<◌, ◌≡◌, refl, ◌≢◌, true, List, length, get_or, set, ℤ}
+use Rattle.std.specs.Prelude.{ℕ, zero, suc, ◌+◌, ◌-◌, ◌≤◌, ◌<◌, ◌≡◌, refl, ◌≢◌, true, List, length, get_or, set, ℤ}
 use Rattle.std.proofs.Common.{sym, ◌∙◌, subst, length-set, get_or-set_same, get_or-set_other, set-set, add-one, arith}
 use Rattle.std.proofs.Math.Path.{ap}
 use Rattle.std.proofs.lemmas.List.{set-get_or}
@@ -9,8 +9,8 @@ use Rattle.theory.proofs.Going.{going_can, going_place, going_back}
 use Rattle.history.specs.Space.{unplaced, met}
 use Rattle.history.specs.Moves.{falls}
 use Rattle.history.specs.Left.{one_of, left}
-use Rattle.history.proofs.Left.{spent, left_more}
-use Rattle.values.specs.Sizes.{threads, capacity}
+use Rattle.history.proofs.Left.{left_more}
+use Rattle.values.specs.Sizes.{threads}
 use Rattle.families.specs.Families.{families}
 use Rattle.families.specs.Placing.{fits_of, held_after, leaves_of, acted_of, back_of}
 use Rattle.families.specs.PlacingUndone.{back_acted, leaves_length}
@@ -22,39 +22,29 @@ use Rattle.recording_meaning.specs.Reading.{return_in, rows_of}
 use Rattle.recording_meaning.specs.Rowing.{rows_many}
 use Rattle.families.specs.Room.{Room, room_fewer, step_room}
 use Rattle.judging.specs.declared.search.Level.{Level}
-use Rattle.judging.specs.Places.{Ready}
+use Rattle.judging.specs.Places.{places_of, Ready}
 use Rattle.judging.specs.Playing.{Situation, situation, onward, given_to}
 use Rattle.judging.specs.Rowing.{more_set, entry_at}
-use Rattle.judging.specs.SearchMachine.{Lv, no_level, lv_of, undone, node_of, Fits, Can, S, G, U, own, move_place}
+use Rattle.judging.specs.SearchMachine.{Lv, no_level, lv_of, undone, node_of, Fits, Can, S, G, U, own, is_next, move_place}
 use Rattle.judging.specs.SearchRunning.{Goes, Running}
-use Rattle.judging.proofs.SearchRunning.{fits, still, at_k, has, low_row, at_here, next_here, not_idle}
+use Rattle.judging.proofs.SearchRunning.{fits, still, at_k, has, low_row, some_unplaced, deeper}
 
 -- an operation is placed
-module _ {needs : ℕ → List ℕ} {h : History} {budget : ℕ} {slot started path : List ℕ} {levels : List Level} {d : ℕ} {items : List ℤ} {held : Held}
+module _ {needs : ℕ → List ℕ} {h : History} {budget : ℕ} {started path : List ℕ} {levels : List Level} {d : ℕ} {items : List ℤ} {held : Held}
     {progress : List ℕ} {remaining next n : ℕ}
-    (g : Running needs h budget slot started path levels d (situation items held progress) remaining next n) (unfinished : remaining ≢ 0) (k : ℕ)
-    (r : Ready started progress next k) (low : k < threads) where
+    (g : Running needs h budget started path levels d (situation items held progress) remaining next n) (unfinished : remaining ≢ 0) (k : ℕ)
+    (r : Ready started progress next k) (low : k < threads) (at : ℕ) (here : at ≡ get_or (places_of h k) (get_or progress k 0) 0) where
   abbrev s : Situation
   s = situation items held progress
-
-  -- the place of the operation
-  abbrev at : ℕ
-  at = get_or slot (k * capacity + get_or progress k 0) 0
 
   -- the progress with one more of thread k
   abbrev ps : List ℕ
   ps = set progress k (get_or progress k 0 + 1)
 
-  some_unplaced : unplaced (rows_of needs h) progress ≢ 0
-  some_unplaced z = not_idle g unfinished k r low (spent families (rows_of needs h) (node_of needs h s) z k)
-
-  pub deeper : d < capacity
-  deeper = omega (arith, (fits g).deep, some_unplaced)
-
   left_one : remaining ≡ one_of families (return_in (operation_at h at).outcome) + left families (rows_of needs h) ps
   left_one =
       g.left_is
-      ∙ left_more families (rows_of needs h) progress k (entry_at needs h at) (next_here g unfinished k r low)
+      ∙ left_more families (rows_of needs h) progress k (entry_at needs h at) (is_next needs h g.sized g.shape s d (fits g) k low (has g unfinished k r low) at (sym here))
       ∙ ap (λ (l : List ℕ). one_of families (return_in (operation_at h at).outcome) + left families (rows_of needs h) l) (more_set progress k)
 
   pub left_enough : one_of families (return_in (operation_at h at).outcome) ≤ remaining
@@ -83,7 +73,7 @@ module _ {needs : ℕ → List ℕ} {h : History} {budget : ℕ} {slot started p
     held_after_lem = ap (λ (a : Acted). a.held) ea
 
     goes_on : onward h s k ≡ to
-    goes_on = rw (at_here g unfinished k r low, held_after_lem, ei)
+    goes_on = rw (sym here, held_after_lem, ei)
 
     back_progress : set ps k (get_or ps k 0 - 1) ≡ progress
     back_progress =
@@ -96,8 +86,8 @@ module _ {needs : ℕ → List ℕ} {h : History} {budget : ℕ} {slot started p
     moves : (S needs h).move (node_of needs h s) k ≡ place (given_to h s k).ret (node_of needs h to)
     moves =
         subst (λ (b : Situation). (S needs h).move (node_of needs h s) k ≡ place (given_to h s k).ret (node_of needs h b)) goes_on
-        (move_place needs h g.sized g.shape s d (fits g) k low (has g unfinished k r low) at (at_here g unfinished k r low) ready
-        (room_fewer h.start.kind held (unplaced (rows_of needs h) progress) 1 (omega (arith, some_unplaced)) (fits g).roomy) right)
+        (move_place needs h g.sized g.shape s d (fits g) k low (has g unfinished k r low) at (sym here) ready
+        (room_fewer h.start.kind held (unplaced (rows_of needs h) progress) 1 (omega (arith, some_unplaced g unfinished k r low)) (fits g).roomy) right)
 
     one_less : unplaced (rows_of needs h) progress ≡ suc (unplaced (rows_of needs h) ps)
     one_less = falls families (rows_of needs h) (node_of needs h s) (node_of needs h to) k (given_to h s k).ret moves
@@ -105,7 +95,7 @@ module _ {needs : ℕ → List ℕ} {h : History} {budget : ℕ} {slot started p
     fits_to : Fits needs h (suc d) to
     fits_to = record {
       roomy = rw held_after_lem (step_room h.start.kind held (operation_at h at).op (unplaced (rows_of needs h) ps)
-          (own needs h g.sized g.shape s d (fits g) k low (has g unfinished k r low) at (at_here g unfinished k r low))
+          (own needs h g.sized g.shape s d (fits g) k low (has g unfinished k r low) at (sym here))
           (subst (λ (m : ℕ). Room h.start.kind held m) one_less (fits g).roomy));
       deep = omega (arith, (fits g).deep, one_less);
       items_long = ap length ei ∙ leaves_length items held (operation_at h at).op ∙ (fits g).items_long;
@@ -124,14 +114,14 @@ module _ {needs : ℕ → List ℕ} {h : History} {budget : ℕ} {slot started p
 
     at_depth : lv_of (set path d k) (set levels d level) d ≡ lv
     at_depth =
-        let a : d < length path = omega (arith, deeper, g.path_long) in
-        let b : d < length levels = omega (arith, deeper, g.levels_long) in
+        let a : d < length path = omega (arith, deeper g unfinished k r low, g.path_long) in
+        let b : d < length levels = omega (arith, deeper g unfinished k r low, g.levels_long) in
         rw (get_or-set_same path d k 0 a, get_or-set_same levels d level no_level b)
 
     above : (i : ℕ) → i < d → lv_of path levels i ≡ lv_of (set path d k) (set levels d level) i
     above i l = let x : i ≢ d = omega arith in rw (get_or-set_other path d i k 0 x, get_or-set_other levels d i level no_level x)
 
-    pub turn_placed : Running needs h budget slot started (set path d k) (set levels d level) (d + 1) to (remaining - one) 0 (n + 1)
+    pub turn_placed : Running needs h budget started (set path d k) (set levels d level) (d + 1) to (remaining - one) 0 (n + 1)
     turn_placed = rw (add-one d, add-one n) (record {
       going = going_place (S needs h) (G needs h) (U needs h) none_stored (at_k g unfinished k r) (still g unfinished)
           (lv_of (set path d k) (set levels d level)) to (given_to h s k).ret (low_row g unfinished k r low) moves
@@ -140,15 +130,15 @@ module _ {needs : ℕ → List ℕ} {h : History} {budget : ℕ} {slot started p
       left_is = omega (arith, left_one, eo);
       sized = g.sized;
       shape = g.shape;
-      indexed = g.indexed;
+      counts = g.counts;
       path_long = length-set path d k ∙ g.path_long;
       levels_long = length-set levels d level ∙ g.levels_long;
     })
 
 -- back over a level
-module _ {needs : ℕ → List ℕ} {h : History} {budget : ℕ} {slot started path : List ℕ} {levels : List Level} {d : ℕ} {items : List ℤ} {held : Held}
+module _ {needs : ℕ → List ℕ} {h : History} {budget : ℕ} {started path : List ℕ} {levels : List Level} {d : ℕ} {items : List ℤ} {held : Held}
     {progress : List ℕ} {remaining next n : ℕ}
-    (g : Running needs h budget slot started path levels d (situation items held progress) remaining next n) (some-above : d ≢ 0) where
+    (g : Running needs h budget started path levels d (situation items held progress) remaining next n) (some-above : d ≢ 0) where
   abbrev top : Situation
   top = situation items held progress
 
@@ -167,7 +157,7 @@ module _ {needs : ℕ → List ℕ} {h : History} {budget : ℕ} {slot started p
 
   pub turn_undone : remaining ≢ 0 → (k : ℕ) → Ready started progress next k → threads ≤ k → (before : List ℤ)
       → before ≡ back_of items (get_or levels (d - 1) no_level).undo
-      → Running needs h budget slot started path levels (d - 1)
+      → Running needs h budget started path levels (d - 1)
       (situation before (get_or levels (d - 1) no_level).held (set progress (get_or path (d - 1) 0) (get_or progress (get_or path (d - 1) 0) 0 - 1)))
       (get_or levels (d - 1) no_level).left (get_or path (d - 1) 0 + 1) n
   turn_undone unfinished k r over before e = rw (e, add-one (get_or path (d - 1) 0)) (record {
@@ -175,7 +165,7 @@ module _ {needs : ℕ → List ℕ} {h : History} {budget : ℕ} {slot started p
     left_is = can.left_before;
     sized = g.sized;
     shape = g.shape;
-    indexed = g.indexed;
+    counts = g.counts;
     path_long = g.path_long;
     levels_long = g.levels_long;
   })

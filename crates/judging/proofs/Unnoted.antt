@@ -1,15 +1,13 @@
 -- Rows whose notes ask the same of every progress are searched alike; notes of zeros ask nothing, like none.
-use Rattle.std.specs.Prelude.{ℕ, zero, suc, ◌*◌, ◌≡◌, refl, Bool, true, false, cond, List, [], ◌∷◌, length, get_or, drop, take, replicate, eqb, ltb}
-use Rattle.std.proofs.Common.{ap, ◌∙◌, length-take, get_or-take, get_or-drop, ltb-true, ltb-false, arith}
+use Rattle.std.specs.Prelude.{ℕ, zero, suc, ◌≡◌, refl, Bool, true, false, cond, List, [], ◌∷◌, length, drop, replicate, eqb}
+use Rattle.std.proofs.Common.{ap, ◌∙◌}
 use Rattle.std.proofs.Math.Option.{Option, none, some}
-use Rattle.std.proofs.Math.ListN.{get_elem? as nth, get_or-eq_default}
+use Rattle.std.proofs.Math.ListN.{get_elem? as nth}
 use Rattle.theory.specs.Space.{Move, Space, grow}
 use Rattle.theory.specs.Budget.{judge}
 use Rattle.history.specs.Object.{Object}
 use Rattle.history.specs.Rows.{Entry, Rows}
-use Rattle.history.specs.Lists.{get_d_same}
 use Rattle.history.specs.Space.{Node, next, unplaced, met, only_pending, all_placed, gives, placing, trying, space, size, root}
-use Rattle.history.specs.Progress.{met_of}
 use Rattle.history.specs.Budgets.{judged}
 use Rattle.values.specs.Sizes.{threads}
 use Rattle.families.specs.Families.{families}
@@ -18,6 +16,7 @@ use Rattle.stepping.specs.declared.histories.Operation.{Operation}
 use Rattle.stepping.specs.declared.histories.History.{History}
 use Rattle.stepping.specs.Record.{held}
 use Rattle.recording_meaning.specs.Reading.{entry_of, entries, of_thread, by_thread, rows_of, notes_of, no_notes}
+use Rattle.recording_meaning.specs.AsRows.{zeros_alike}
 use Rattle.judging.specs.Answers.{judged_of}
 
 -- two spaces of the same situations, with the same threads, ends and moves, have the same search trees
@@ -146,19 +145,5 @@ module _ (needs other : ℕ → List ℕ) (same : (i : ℕ) (ps : List ℕ) → 
       judged_alike families (rows_of needs h) (rows_of other h) b (state_of h.start.kind h.start.items) (threads_alike 0 threads (held h))
 
 -- notes of zeros
-
-zero_note : (n i u : ℕ) → get_or (notes_of (replicate n 0) i) u 0 ≡ 0
-unfolding notes_of
-zero_note n i u = go (ltb u threads) refl
-  where
-    zeros : List ℕ
-    zeros = replicate n 0
-
-    go : (b : Bool) → ltb u threads ≡ b → get_or (take threads (drop (i * threads) zeros)) u 0 ≡ 0
-    go true e = get_or-take threads (drop (i * threads) zeros) u 0 (ltb-true u threads e) ∙ get_or-drop (i * threads) zeros u 0 ∙ get_d_same n _ 0
-    go false e =
-        get_or-eq_default (take threads (drop (i * threads) zeros)) 0
-        (omega (arith, length-take threads (drop (i * threads) zeros), ltb-false u threads e))
-
 pub zeros_ask_nothing : (n : ℕ) (h : History) (b : ℕ) → judged_of (notes_of (replicate n 0)) h b ≡ judged_of no_notes h b
-zeros_ask_nothing n = judged_same (notes_of (replicate n 0)) no_notes (λ i ps. met_of (notes_of (replicate n 0) i) ps (λ u l. omega (arith, zero_note n i u)))
+zeros_ask_nothing n = judged_same (notes_of (replicate n 0)) no_notes (zeros_alike n)

@@ -70,6 +70,9 @@ unfoldable pub judged_of : (ℕ → List ℕ) → History → ℕ → Judged Pla
 judged_of needs h b = judged families (rows_of needs h) b (state_of h.start.kind h.start.items)
 
 -- What a judge answers of any tester whatever: Invalid and no attempts if it is out of shape or its history is invalid, and else what the walk finds.
-unfoldable pub judge_of : (M : Model) → M.Tester → ℕ → Answer
-judge_of M s b =
-    pick (M.shaped s) (pick (M.history s).valid (told_of (judged_of (M.needs s) (M.history s) b)) (without_order Invalid 0)) (without_order Invalid 0)
+unfoldable pub judge_with : {T : Type 0} → (T → Bool) → (T → History) → (T → ℕ → List ℕ) → T → ℕ → Answer
+judge_with shaped history needs s b =
+    pick (shaped s) (pick (history s).valid (told_of (judged_of (needs s) (history s) b)) (without_order Invalid 0)) (without_order Invalid 0)
+
+abbrev pub judge_of : (M : Model) → M.Tester → ℕ → Answer
+judge_of M = judge_with M.shaped M.history M.needs

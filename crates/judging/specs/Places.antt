@@ -1,9 +1,13 @@
 -- Where each thread's operations stand in a history, and the arrays that say it.
 use Rattle.std.specs.Prelude.{ℕ, zero, suc, ◌+◌, ◌*◌, ◌≤◌, ◌<◌, ◌≡◌, List, [], ◌∷◌, ◌++◌, length, get_or, eqb}
 use Rattle.values.specs.Value.{pick}
-use Rattle.values.specs.Sizes.{threads, capacity}
+use Rattle.values.specs.Sizes.{threads, capacity, room}
 use Rattle.stepping.specs.declared.histories.History.{History}
 use Rattle.stepping.specs.Record.{operation_at}
+
+-- Each array of a history has its size.
+abbrev pub Whole : History → Type 0
+Whole h = (length h.ops ≡ capacity) × (length h.done ≡ threads) × (length h.start.items ≡ room)
 
 module _ (h : History) where
   -- The places of thread t's operations among the first n, in their order.
@@ -25,12 +29,11 @@ module _ (h : History) where
 
   -- Of all of them.
 
+  abbrev pub Started : List ℕ → Type 0
+  Started started = StartedTo h.count started
+
   abbrev pub Slotted : List ℕ → Type 0
   Slotted slot = SlottedTo h.count slot
-
-  pub record Indexed (slot started : List ℕ) : Type 0 where
-    pub counts : StartedTo h.count started
-    pub at : Slotted slot
 
 -- The first thread from `from` on that has an operation to place, or `threads`.
 pub record Ready (started progress : List ℕ) (from r : ℕ) : Type 0 where

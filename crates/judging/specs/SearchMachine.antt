@@ -1,5 +1,5 @@
 -- The search's machine over arrays, as an instance of the loop with undo: its states are situations of the search, and a level takes one back.
-use Rattle.std.specs.Prelude.{ℕ, ◌+◌, ◌-◌, ◌≤◌, ◌<◌, ◌≡◌, Bool, true, false, List, length, get_or, set, pos}
+use Rattle.std.specs.Prelude.{ℕ, ◌+◌, ◌-◌, ◌≤◌, ◌<◌, ◌≡◌, Bool, true, false, List, length, get_or, set, pos, Ok}
 use Rattle.std.proofs.Common.{sym, ap, ◌∙◌, subst, arith}
 use Rattle.std.proofs.Math.Option.{Option, none, some}
 use Rattle.theory.specs.Space.{idle, refused, place, Space}
@@ -16,7 +16,6 @@ use Rattle.families.specs.Placing.{kind_of, answer_of, right_of, fits_of, given_
 use Rattle.families.specs.Refusals.{op_belongs}
 use Rattle.families.specs.Room.{Room, room_fits}
 use Rattle.families.specs.States.{state_of, placing_answers, placing_right, placing_leaves}
-use Rattle.values.specs.declared.refusal.Check.TheVariants.{Clear}
 use Rattle.families.specs.declared.Ret.{Ret}
 use Rattle.stepping.specs.declared.histories.History.{History}
 use Rattle.stepping.specs.Record.{operation_at}
@@ -104,7 +103,7 @@ module _ (needs : ℕ → List ℕ) (h : History) where
       pub below : i < h.count
       below = subst (λ (j : ℕ). j < h.count) at (places_below h t h.count (get_or s.progress t 0) has)
 
-      pub own : op_belongs h.start.kind (operation_at h i).op ≡ Clear
+      pub own : op_belongs h.start.kind (operation_at h i).op ≡ Ok tt
       own = ((shape_exactly h sized).1 shape).own_op i below
 
       same_answer : answer_of s.items s.held (operation_at h i).op ≡ answers (object_of s) (operation_at h i).op

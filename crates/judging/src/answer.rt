@@ -5,59 +5,53 @@ ghost use Rattle.judging.specs.Answers.{number_of, is_consistent, nobody_there, 
 use families::{Ret, no_ret};
 use values::sizes::OPERATIONS;
 
-#[derive(Clone, Copy)]
+// With its number in document 01.
+#[derive(Clone, Copy, Debug, PartialEq, Eq)]
 pub enum Verdict {
-    Order,
-    NoOrder,
-    Undecided,
-    Invalid,
+    Order = 0,
+    NoOrder = 1,
+    Undecided = 2,
+    Invalid = 3,
 }
 
-// Its number in document 01.
-pub fn number(verdict: Verdict) -> u8
-    ensures { result ≡ number_of verdict }
-{
-    match verdict {
-        Verdict::Order => 0,
-        Verdict::NoOrder => 1,
-        Verdict::Undecided => 2,
-        Verdict::Invalid => 3,
+impl From<Verdict> for u8 {
+    ghost from_gives = { λ verdict n. n ≡ number_of verdict };
+
+    #[tactic(auto, unfolding(crate::specs::Answers::number_of))]
+    fn from(verdict: Verdict) -> u8 {
+        verdict as u8
     }
 }
 
 // Whether some order explains the history, as far as the verdict tells.
+#[tactic(auto, unfolding(crate::specs::Answers::is_consistent))]
 pub fn is_consistent(verdict: Verdict) -> bool
     ensures { result ≡ is_consistent verdict }
 {
-    match verdict {
-        Verdict::Order => true,
-        Verdict::NoOrder => false,
-        Verdict::Undecided => false,
-        Verdict::Invalid => false,
-    }
+    matches!(verdict, Verdict::Order)
 }
 
 // A place of an order: a thread, and the return that its operation has there.
-#[derive(Clone, Copy)]
+#[derive(Clone, Copy, Debug, PartialEq, Eq)]
 pub struct Placed {
     pub thread: u8,
     pub ret: Ret,
 }
 
-// A place that is not taken.
+// The thread of a place that is not taken. It is no Option: this is the byte that the theorem `calls` says of the host's answer.
 pub const NOBODY: u8 = 255;
 
 pub(crate) fn nobody() -> Placed
     ensures { result ≡ nobody_there }
 {
-    let ret = no_ret();
     Placed {
         thread: NOBODY,
-        ret,
+        ret: no_ret(),
     }
 }
 
-// `order` has `length` places, and nobody behind them.
+// `order` has `length` places, and nobody behind them: an array with its length, and no Vec, since the judge
+// has no heap.
 #[derive(Clone, Copy)]
 pub struct Answer {
     pub verdict: Verdict,
@@ -67,14 +61,14 @@ pub struct Answer {
 }
 
 // An answer without an order.
+#[tactic(auto, unfolding(crate::specs::Answers::without_order))]
 pub(crate) fn without_order(verdict: Verdict, attempts: u64) -> Answer
     ensures { result ≡ without_order verdict attempts }
 {
-    let last = nobody();
     Answer {
         verdict,
         attempts,
         length: 0,
-        order: [last; OPERATIONS],
+        order: [nobody(); OPERATIONS],
     }
 }

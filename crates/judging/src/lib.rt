@@ -3,6 +3,5 @@
 
 pub mod answer;
 mod index;
-pub mod linearizability;
+pub mod judge;
 mod search;
-pub mod sequential_consistency;

@@ -1,20 +1,20 @@
 // The search for the first legal order: a loop that places one operation more or goes back by one, whatever
 // the family and the model.
-ghost use Rattle.std.specs.Prelude.{◌≡◌, true, ◌++◌, length, take, replicate, ◌≤◌, ◌<◌, ◌-◌};
+ghost use Rattle.std.specs.Prelude.{◌≡◌, true, ◌++◌, length, replicate, ◌≤◌, ◌<◌, ◌-◌, MatchOption};
 ghost use Rattle.history.specs.Space.{met};
 ghost use Rattle.values.specs.Sizes.{threads, capacity};
 ghost use Rattle.stepping.specs.Shape.{shape_of};
 ghost use Rattle.recording_meaning.specs.Reading.{notes_of};
 ghost use Rattle.judging.specs.Answers.{judged_of, told_of, nobody_there};
-ghost use Rattle.judging.specs.Places.{Ready, Indexed, Slotted, sum_of};
+ghost use Rattle.judging.specs.Places.{Ready};
 ghost use Rattle.judging.specs.Playing.{origin, played, Playable};
 ghost use Rattle.judging.specs.SearchStops.{Stops};
 
-use crate::answer::{Answer, Placed, Verdict, nobody, without_order};
-use crate::index::{SLOTS, completed, counted, index_of};
+use crate::answer::{Answer, Placed, Verdict, is_consistent, nobody, without_order};
+use crate::index::{Index, completed, counted};
 use families::placing::{act, fits, given, held_of, take_back};
 use shape::notes::NOTES;
-use stepping::histories::History;
+use stepping::histories::{History, Operation};
 use values::held::{Held, Undo};
 use values::sizes::{OPERATIONS, THREADS};
 
@@ -26,7 +26,8 @@ pub struct Level {
     pub left: u32,
 }
 
-// How a search ended, how many operations were placed then, and the attempts made.
+// How a search ended, how many operations were placed then, and the attempts made. The path that `depth` measures
+// is a lent array, and no Vec, since the judge has no heap.
 #[derive(Clone, Copy)]
 pub struct Stopped {
     pub verdict: Verdict,
@@ -34,57 +35,42 @@ pub struct Stopped {
     pub attempts: u64,
 }
 
-// The first thread from `from` on that has an operation to place, or THREADS.
-fn ready(started: &[u8; THREADS], progress: &[u8; THREADS], from: usize) -> usize
+// The first thread from `from` on that has an operation to place.
+fn ready(started: &[u8; THREADS], progress: &[u8; THREADS], from: usize) -> Option<usize>
     requires { from ≤ threads }
-    ensures { Ready started.now progress.now from result }
+    ensures { MatchOption result (Ready started.now progress.now from threads) (λ k. (k < threads) × Ready started.now progress.now from k) }
 {
-    let mut k = from;
-    while k < THREADS {
+    for k in from..THREADS {
         if progress[k] < started[k] {
-            return k;
+            return Some(k);
         }
-        k += 1;
     }
-    k
+    None
 }
 
 // Whether all that the operation at a place notes is placed.
 fn allowed(notes: &[u8; NOTES], at: usize, progress: &[u8; THREADS]) -> bool
-    requires { (at < capacity) × (length progress.now ≡ threads) }
+    requires { at < capacity }
     ensures { result ≡ met (notes_of notes.now at) progress.now }
 {
     let base = at * THREADS;
-    let mut u = 0;
-    while u < THREADS {
+    for u in 0..THREADS {
         if progress[u] < notes[base + u] {
             return false;
         }
-        u += 1;
     }
     true
 }
 
-// Searches within the budget. `path` has the threads of the operations placed.
-fn run(
-    history: History,
-    slot: &[u8; SLOTS],
-    started: &[u8; THREADS],
-    notes: &[u8; NOTES],
-    returned: u32,
-    path: &mut [u8; OPERATIONS],
-    budget: u64,
-) -> Stopped
-    requires history_value { shape_of history ≡ true }
-    requires indexed { Indexed history slot.now started.now }
-    requires returned_value { (returned ≡ sum_of history.done) × (length path.old ≡ capacity) }
-    ensures { Stops (judged_of (notes_of notes.now) history budget) history path.new result }
+// Searches within the budget. `path` has the threads of the operations placed. The loop counts nothing, but goes
+// back and forth, so that no iterator stands for it.
+fn run(index: &Index, notes: &[u8; NOTES], path: &mut [u8; OPERATIONS], budget: u64) -> Stopped
+    ensures { Stops (judged_of (notes_of notes.now) index.now.history.now budget) index.now.history.now path.new result }
 {
-    let start = history.start;
-    let kind = start.kind;
+    let start = index.history.start;
     let mut items = start.items;
-    let mut held = held_of(kind);
-    let mut left = returned;
+    let mut held = held_of(start.kind);
+    let mut left = completed(&index.history.done);
     let mut progress = [0u8; THREADS];
     let empty = Level {
         held: Held {
@@ -106,8 +92,7 @@ fn run(
                 attempts,
             };
         }
-        let k = ready(started, &progress, next);
-        if k < THREADS {
+        if let Some(k) = ready(&index.started, &progress, next) {
             if attempts == budget {
                 return Stopped {
                     verdict: Verdict::Undecided,
@@ -117,25 +102,21 @@ fn run(
             }
             attempts += 1;
             let p = progress[k];
-            let at = slot[k * OPERATIONS + p as usize] as usize;
-            let o = history.ops[at];
-            let op = o.op;
-            let outcome = o.outcome;
-            if allowed(notes, at, &progress) {
-                if fits(&items, held, op, outcome) {
-                    let acted = act(&mut items, held, op);
-                    let undo = acted.undo;
-                    let level = Level { held, undo, left };
-                    levels[depth] = level;
-                    path[depth] = k as u8;
-                    depth += 1;
-                    progress[k] = p + 1;
-                    left -= counted(outcome);
-                    held = acted.held;
-                    next = 0;
-                } else {
-                    next = k + 1;
-                }
+            let at = index.place(k, p);
+            let Operation { op, outcome, .. } = index.history.ops[at];
+            if allowed(notes, at, &progress) && fits(&items, held, op, outcome) {
+                let acted = act(&mut items, held, op);
+                levels[depth] = Level {
+                    held,
+                    undo: acted.undo,
+                    left,
+                };
+                path[depth] = k as u8;
+                depth += 1;
+                progress[k] = p + 1;
+                left -= counted(outcome);
+                held = acted.held;
+                next = 0;
             } else {
                 next = k + 1;
             }
@@ -149,83 +130,63 @@ fn run(
             }
             depth -= 1;
             let level = levels[depth];
-            let undo = level.undo;
-            take_back(&mut items, undo);
+            take_back(&mut items, level.undo);
             held = level.held;
             left = level.left;
             let th = path[depth] as usize;
-            progress[th] = progress[th] - 1;
+            progress[th] -= 1;
             next = th + 1;
         }
     }
 }
 
 // The order that the threads of a path make, with its returns, and nobody behind it.
-fn order_of(
-    history: History,
-    slot: &[u8; SLOTS],
-    path: [u8; OPERATIONS],
-    depth: usize,
-) -> [Placed; OPERATIONS]
-    requires history_value { shape_of history ≡ true }
-    requires slotted { Slotted history slot.now }
-    requires depth_le_capacity { (depth ≤ capacity) × Playable history (origin history) (take depth path) }
-    ensures { result ≡ played history (origin history) (take depth path) ++ replicate (capacity - depth) nobody_there }
+fn order_of(index: &Index, path: &[u8]) -> [Placed; OPERATIONS]
+    requires within { length path.now ≤ capacity }
+    requires playable { Playable index.now.history.now (origin index.now.history.now) path.now }
+    ensures { result ≡ played index.now.history.now (origin index.now.history.now) path.now ++ replicate (capacity - length path.now) nobody_there }
 {
-    let start = history.start;
-    let kind = start.kind;
+    let start = index.history.start;
     let mut items = start.items;
-    let mut held = held_of(kind);
+    let mut held = held_of(start.kind);
     let mut progress = [0u8; THREADS];
-    let last = nobody();
-    let mut order = [last; OPERATIONS];
-    let mut d = 0;
-    while d < depth {
-        let thread = path[d];
-        let own = thread as usize;
+    let mut order = [nobody(); OPERATIONS];
+    for (d, thread) in path.iter().enumerate() {
+        let own = *thread as usize;
         let p = progress[own];
-        let at = slot[own * OPERATIONS + p as usize] as usize;
-        let o = history.ops[at];
-        let op = o.op;
-        let outcome = o.outcome;
+        let Operation { op, outcome, .. } = index.history.ops[index.place(own, p)];
         let ret = given(&items, held, op, outcome);
-        let placed = Placed { thread, ret };
-        order[d] = placed;
-        let acted = act(&mut items, held, op);
-        held = acted.held;
+        order[d] = Placed {
+            thread: *thread,
+            ret,
+        };
+        held = act(&mut items, held, op).held;
         progress[own] = p + 1;
-        d += 1;
     }
     order
 }
 
-// The verdict on a history in shape, with those notes.
+// The verdict on a history in shape, with those notes. The two are no struct: one tester keeps notes and the other
+// none, so that it would be put together at each call and taken apart in the next function.
 pub(crate) fn search(history: History, notes: &[u8; NOTES], budget: u64) -> Answer
     requires { shape_of history ≡ true }
     ensures { result ≡ told_of (judged_of (notes_of notes.now) history budget) }
 {
-    let index = index_of(history);
-    let slot = index.slot;
-    let started = index.started;
-    let done = history.done;
-    let returned = completed(done);
+    let index = Index::of(&history);
     let mut path = [0u8; OPERATIONS];
-    let stopped = run(history, &slot, &started, notes, returned, &mut path, budget);
-    let verdict = stopped.verdict;
-    let attempts = stopped.attempts;
-    match verdict {
-        Verdict::Order => {
-            let length = stopped.depth;
-            let order = order_of(history, &slot, path, length);
-            Answer {
-                verdict,
-                attempts,
-                length,
-                order,
-            }
+    let Stopped {
+        verdict,
+        depth,
+        attempts,
+    } = run(&index, notes, &mut path, budget);
+    if is_consistent(verdict) {
+        Answer {
+            verdict,
+            attempts,
+            length: depth,
+            order: order_of(&index, &path[..depth]),
         }
-        Verdict::NoOrder => without_order(verdict, attempts),
-        Verdict::Undecided => without_order(verdict, attempts),
-        Verdict::Invalid => without_order(verdict, attempts),
+    } else {
+        without_order(verdict, attempts)
     }
 }

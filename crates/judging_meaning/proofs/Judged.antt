@@ -29,7 +29,7 @@ use Rattle.judging.specs.declared.answer.Answer.{Answer}
 use Rattle.judging.specs.declared.answer.Placed.{Placed}
 use Rattle.judging.specs.declared.answer.Verdict.{Verdict}
 use Rattle.judging.specs.declared.answer.Verdict.TheVariants.{Order, NoOrder, Undecided, Invalid}
-use Rattle.judging.specs.Answers.{is_consistent, placed, nobody_there, with_order, without_order, told_of, judged_of, judge_of}
+use Rattle.judging.specs.Answers.{is_consistent, placed, nobody_there, with_order, without_order, told_of, judged_of, judge_of, judge_with}
 use Rattle.judging_meaning.specs.Judging.{item, order_in, start_of, needed, HasOrder, Sound, Unsound, VerdictWhen, Answered, Judges}
 use Rattle.judging_meaning.specs.Within.{legal_within}
 
@@ -62,7 +62,7 @@ module _ (M : Model) (s : M.Tester) (b : ℕ) where
         → Outcome (with_order (needed M s) (shown_by placed p))
 
   outcome : Outcome (judge_of M s b)
-  unfolding judge_of judged_of told_of
+  unfolding judge_with judged_of told_of
   outcome = judges (M.shaped s) refl (M.history s).valid refl
     where
       walks : Sound M s → (c : Bool) → leb (needed M s) b ≡ c → (a : Option (Steps families (tester_rows M s))) → Answers families (tester_rows M s) (start_of M s) a

@@ -21,7 +21,7 @@ use Rattle.recording_meaning.specs.RustReading.{InRust, sequential_in_rust, line
 use Rattle.recording_meaning.proofs.RustFeeding.{sequential_as_rust, linearizability_as_rust}
 use Rattle.judging.specs.declared.answer.Verdict.{Verdict}
 use Rattle.judging.specs.declared.answer.Verdict.TheVariants.{Order, NoOrder, Undecided, Invalid}
-use Rattle.judging.specs.Answers.{is_consistent, without_order, Placement, told, told_of, judged_of, judge_of}
+use Rattle.judging.specs.Answers.{is_consistent, without_order, Placement, told, told_of, judged_of, judge_of, judge_with}
 use Rattle.judging_meaning.specs.Serialize.{TotalOrder, Serializes, is_some, sequential_serializes, linearizable_serializes}
 use Rattle.judging_meaning.specs.Shown.{with_operations, shown_verdict}
 use Rattle.judging_meaning.specs.RustVerdict.{rust_answer, Serialized}
@@ -49,7 +49,7 @@ shown_consistent Invalid l = refl
 
 -- what is judged of a tester in shape with a valid history
 judge_sound : (M : Model) (s : M.Tester) (b : ℕ) → Sound M s → judge_of M s b ≡ told_of (judged_of (M.needs s) (M.history s) b)
-unfolding judge_of
+unfolding judge_with
 judge_sound M s b h =
     let found = told_of (judged_of (M.needs s) (M.history s) b) in
     let invalid = without_order Invalid 0 in

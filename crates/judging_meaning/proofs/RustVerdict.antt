@@ -10,7 +10,8 @@ use Rattle.history.specs.Rows.{Rows}
 use Rattle.history.specs.Lists.{not_some}
 use Rattle.history.specs.Space.{space}
 use Rattle.history.specs.Ways.{Steps}
-use Rattle.families.specs.Family.{Family, family_of, op_family}
+use Rattle.families.specs.declared.family.Family.{Family}
+use Rattle.families.specs.Family.{family_of, op_family}
 use Rattle.families.specs.Families.{families}
 use Rattle.families.specs.RustObjects.{ref_objects, ref_obj}
 use Rattle.families.specs.RustFamilies.{holding, object_same}

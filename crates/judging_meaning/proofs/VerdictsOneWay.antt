@@ -30,7 +30,7 @@ use Rattle.recording_meaning.proofs.TesterFeeding.{fed_rows, invalid_exactly, le
 use Rattle.recording_meaning.proofs.TestersAlike.{testers_alike}
 use Rattle.judging.specs.declared.answer.Answer.{Answer}
 use Rattle.judging.specs.declared.answer.Verdict.TheVariants.{Order, NoOrder, Undecided, Invalid}
-use Rattle.judging.specs.Answers.{Placement, without_order, told, told_of, judged_of, judge_of}
+use Rattle.judging.specs.Answers.{Placement, without_order, told, told_of, judged_of, judge_of, judge_with}
 use Rattle.judging_meaning.specs.Judging.{start_of, HasOrder, Sound}
 use Rattle.judging_meaning.proofs.Judged.{judges, sequential_judges, linearizability_judges}
 use Rattle.judging_meaning.proofs.JudgedFresh.{start_fed, fresh_sequential, fresh_linearizable}
@@ -41,7 +41,7 @@ use Rattle.judging_meaning.specs.VerdictsOneWay.{fed, verdict_fed, Refused, boun
 
 -- A larger budget never changes an Order or a No order, nor an Invalid: verdict, order and attempts stay. For any tester of either model.
 pub larger_budget : (M : Model) (s : M.Tester) (b c : ℕ) → b ≤ c → (judge_of M s b).verdict ≢ Undecided → judge_of M s c ≡ judge_of M s b
-unfolding judge_of judged_of told_of without_order
+unfolding judge_with judged_of told_of without_order
 larger_budget M s b c h = go (M.shaped s) (M.history s).valid
   where
     invalid : Answer

@@ -5,7 +5,8 @@ use Rattle.std.proofs.Common.{ap, ◌∙◌}
 use Rattle.history.specs.Object.{Object}
 use Rattle.history.specs.Rows.{Entry, Rows, Is}
 use Rattle.values.specs.Value.{pick}
-use Rattle.families.specs.Family.{Family, op_family}
+use Rattle.families.specs.declared.family.Family.{Family}
+use Rattle.families.specs.Family.{op_family}
 use Rattle.families.specs.Families.{State, families, right, after}
 use Rattle.families.specs.Placing.{leaves_wrong}
 use Rattle.families.specs.RustObjects.{RefObj, SequentialSpec, ref_objects}

@@ -1,5 +1,5 @@
 -- The judge's answer is the Rust's: where the budget covers the search, the order that `serialized_history` answers, or None.
-use Rattle.std.specs.Prelude.{ℕ, ◌≤◌, ◌≡◌}
+use Rattle.std.specs.Prelude.{ℕ, ◌≤◌, ◌≡◌, Ok}
 use Rattle.std.proofs.Math.Bool.{true, false}
 use Rattle.std.proofs.Math.Option.{Option, none, some}
 use Rattle.history.specs.Rows.{Rows}
@@ -8,7 +8,6 @@ use Rattle.families.specs.RustObjects.{ref_objects, ref_obj}
 use Rattle.families.specs.declared.Object.{Object}
 use Rattle.families.specs.declared.Op.{Op}
 use Rattle.families.specs.declared.Ret.{Ret}
-use Rattle.stepping.specs.declared.recorded.Made.TheVariants.{New}
 use Rattle.recording_meaning.specs.Models.{Model, tester_rows}
 use Rattle.recording_meaning.specs.Inputs.{Inputs, events_in, InSizes, feed}
 use Rattle.recording_meaning.specs.RustReading.{InRust, in_rust, rust_new, rust_feed}
@@ -46,7 +45,7 @@ module _ (M : Model) (R : InRust M) (S : Serializes R.keeps) where
     pub same_invalid : (s : M.Tester) → (M.history s).valid ≡ false → (b : ℕ)
         → (rust_answer M R S s ≡ none) × (shown_answer (tester_rows M s) (judge_of M s b) ≡ none)
     -- from inputs to the Rust's answer: within document 01's sizes, the Rust's own new tester of the start given, fed the same inputs, answers the same
-    pub same_fed : (start : Object) → M.made start ≡ New → (l : Inputs) → InSizes start.kind (events_in l) → (b : ℕ)
+    pub same_fed : (start : Object) → M.made start ≡ Ok tt → (l : Inputs) → InSizes start.kind (events_in l) → (b : ℕ)
         → needed M (feed M (M.new start) l) ≤ b
         → serialized_history R.keeps S ref_objects ref_obj (rust_feed M R (rust_new M R start) l)
         ≡ shown_answer (tester_rows M (feed M (M.new start) l)) (judge_of M (feed M (M.new start) l) b)

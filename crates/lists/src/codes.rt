@@ -1,77 +1,57 @@
 // Operations and returns, told by the families' table of numbers.
-use crate::fields::{NONE, fits, narrow, natural, value};
+ghost use Rattle.std.specs.Prelude.{◌≤◌, IfSome};
+
+use crate::fields::number_at;
 use crate::starts::kind_of;
-use families::codes::{op_form, ret_form};
+use families::family::{Family, OfFamily};
+use families::{Op, Ret};
 use values::coded::{Coded, Form};
+use values::value::zigzag;
 
-// The one return that carries a natural number and no value, a length: the object's number, and its own.
-const COUNTED: u64 = 2;
+// The one return that carries a natural number and no value: a stack's length. The list has the number, and not the return,
+// which is looked up by it.
+const LENGTH: u32 = 2;
 
-const LENGTH: u64 = 2;
-
-// The numbers of an operation or of a return; where it is not good there is none.
-#[derive(Clone, Copy)]
-pub struct Told {
-    pub good: bool,
-    pub coded: Coded,
-}
-
-// Whether an operation of that form may have the V `word`, which is 0 where there is no value.
-fn takes(form: Form, word: u64) -> bool {
-    match form {
-        Form::Number => fits(word),
-        Form::Bare => word == 0,
-        _ => false,
-    }
-}
-
-// OP V
-pub fn op_at(family: u64, fields: &[u64]) -> Told {
-    let number = narrow(natural(fields, 0));
-    let word = value(fields, 1);
-    let good = takes(op_form(kind_of(family), number), word);
-    let coded = Coded {
-        number,
-        count: 1,
-        word: narrow(word),
+// OP V: an operation, and its value or 0.
+pub fn op_at(family: Option<Family>, fields: &[i64]) -> Option<Op> {
+    let kind = kind_of(family);
+    let number = number_at(fields, 0)?;
+    let value: i32 = number_at(fields, 1)?;
+    let takes = match Op::form(kind, number) {
+        Form::Number => true,
+        Form::Bare => value == 0,
+        Form::Unknown | Form::Flagged => false,
     };
-    Told { good, coded }
+    takes.then(|| Op::told(kind, Coded::single(number, zigzag(value))))
 }
 
-// RET RN RV: the last as a corpus file sends it.
-pub fn carried_at(family: u64, fields: &[u64]) -> u64 {
-    if family == COUNTED && natural(fields, 0) == LENGTH {
-        let length = natural(fields, 2);
-        if fits(length) {
-            return length;
-        }
-        return NONE;
-    }
-    value(fields, 2)
-}
-
-// Whether a return of that form may carry so many values, and this.
-fn carries(form: Form, count: u32, word: u64) -> bool {
-    let nothing = count == 0 && word == 0;
-    let one = count == 1 && fits(word);
-    match form {
+// RET RN RV: the numbers of a return, the last as a corpus file sends it.
+pub fn ret_coded_at(family: Option<Family>, fields: &[i64]) -> Option<Coded>
+    ensures { IfSome result (λ coded. coded.count ≤ 1) }
+{
+    let number = number_at(fields, 0)?;
+    let count = number_at(fields, 1)?;
+    let word = if family == Some(Family::Vec) && number == LENGTH {
+        number_at(fields, 2)?
+    } else {
+        zigzag(number_at(fields, 2)?)
+    };
+    let carries = match Ret::form(kind_of(family), number) {
         Form::Unknown => false,
-        Form::Bare => nothing,
-        Form::Number => one,
-        Form::Flagged => nothing || one,
-    }
-}
-
-// RET RN RV
-pub fn ret_at(family: u64, fields: &[u64]) -> Told {
-    let number = narrow(natural(fields, 0));
-    let count = narrow(natural(fields, 1));
-    let word = carried_at(family, fields);
-    let good = carries(ret_form(kind_of(family), number), count, word);
+        Form::Bare => count == 0 && word == 0,
+        Form::Number => count == 1,
+        Form::Flagged => count == 1 || (count == 0 && word == 0),
+    };
     let coded = Coded {
         number,
         count,
-        word: narrow(word),
+        word,
     };
-    Told { good, coded }
+    carries.then_some(coded)
+}
+
+// RET RN RV: a return.
+pub fn ret_at(family: Option<Family>, fields: &[i64]) -> Option<Ret> {
+    let coded = ret_coded_at(family, fields)?;
+    Some(Ret::told(kind_of(family), coded))
 }

@@ -1,61 +1,56 @@
-// A line's numbers as what they stand for. Every function here takes any numbers, and a place past their
-// end reads as no number at all.
+// A line's numbers as what they stand for. Every function here takes any numbers, and at a place past their end
+// there is no number.
+ghost use Rattle.std.specs.Prelude.{◌≡◌, ◌+◌, ◌*◌, ◌^◌, ◌<◌, ◌≤◌, length, drop, IsNone, IfSome};
+ghost use Rattle.arrayvec.specs.ArrayVec.{array_vec_len};
 
-// What a number is read as where there is none.
-pub const NONE: u64 = u64::MAX;
+use arrayvec::ArrayVec;
 
-// This many numbers; none where there are fewer.
-pub fn first(line: &[u64], count: usize) -> &[u64] {
-    if count <= line.len() {
-        return &line[0..count];
+// A number that tells nothing of the kind that is asked for.
+#[derive(Clone, Copy, Debug)]
+pub struct Unknown;
+
+// The number at a place as a `T`, if it is one: as a number of so many bits, say, or as a family.
+pub fn number_at<T: TryFrom<i64> + Drop>(line: &[i64], at: usize) -> Option<T>
+where
+    T::Error: Drop,
+    ensures { length line.now ≤ at → IsNone result }
+{
+    T::try_from(*line.get(at)?).ok()
+}
+
+// The numbers from this place on.
+pub fn from(line: &[i64], at: usize) -> &[i64]
+    ensures { result.now ≡ drop at line.now }
+{
+    line.get(at..).unwrap_or(&[])
+}
+
+// All numbers as `T`, if each is one and there is room for them. They lie in the value itself: memory is fixed, so that
+// reading a list can't want for it.
+pub fn all_of<T: TryFrom<i64> + Default + Drop, const ROOM: usize>(
+    numbers: &[i64],
+) -> Option<ArrayVec<T, ROOM>>
+where
+    T::Error: Drop,
+    ensures { IfSome result (λ all. array_vec_len all ≡ length numbers.now) }
+{
+    let mut all = ArrayVec::new();
+    for &number in numbers {
+        all.try_push(T::try_from(number).ok()?).ok()?;
     }
-    &line[..0]
+    Some(all)
 }
 
-// The numbers from this one on.
-pub fn from(line: &[u64], at: usize) -> &[u64] {
-    if at <= line.len() {
-        return &line[at..];
-    }
-    &line[..0]
+// A number of at most so many bits; the largest where it has more.
+fn narrow(number: u64) -> u32
+    ensures { number < 2 ^ 32 → result ≡ number }
+{
+    u32::try_from(number).unwrap_or(u32::MAX)
 }
 
-// The number at a place as a natural number.
-pub fn natural(line: &[u64], at: usize) -> u64 {
-    if at < line.len() {
-        let word = line[at];
-        if word % 2 == 0 {
-            return word / 2;
-        }
-    }
-    NONE
-}
-
-// Whether a number is one of 32 bits.
-pub fn fits(number: u64) -> bool {
-    number <= u32::MAX as u64
-}
-
-// The number at a place as a value of 32 bits, the way a corpus file sends it: a line's numbers are kept so.
-pub fn value(line: &[u64], at: usize) -> u64 {
-    if at < line.len() {
-        let word = line[at];
-        if fits(word) {
-            return word;
-        }
-    }
-    NONE
-}
-
-// A number in 32 bits; the largest where it has more.
-pub fn narrow(number: u64) -> u32 {
-    if number <= u32::MAX as u64 {
-        return number as u32;
-    }
-    u32::MAX
-}
-
-// HIGH LOW: HIGH · 2^32 + LOW.
-pub fn wide(high: u64, low: u64) -> u64 {
-    narrow(high) as u64 * 4294967296 + narrow(low) as u64
+// HIGH · 2^32 + LOW, each with at most 32 bits.
+pub fn wide(high: u64, low: u64) -> u64
+    ensures { high < 2 ^ 32 → low < 2 ^ 32 → result ≡ high * 2 ^ 32 + low }
+{
+    u64::from(narrow(high)) * 4294967296 + u64::from(narrow(low))
 }

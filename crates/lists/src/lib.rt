@@ -2,11 +2,9 @@
 // describes their lines, and families has the table of numbers.
 #![tactic(auto)]
 
-pub mod bytes;
 pub mod codes;
 pub mod events;
 pub mod fields;
 pub mod input;
 pub mod lines;
 pub mod starts;
-pub mod telling;

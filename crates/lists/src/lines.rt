@@ -1,111 +1,114 @@
-// A line of numbers, read byte by byte. A signed number v is kept as 2v, or as -2v - 1 where it is below zero.
-use crate::fields::{NONE, first};
+// A line of numbers, read byte by byte.
+ghost use Rattle.std.specs.Prelude.{◌≡◌, ◌≢◌, ◌+◌, ◌≤◌, [], length};
+
+use arrayvec::ArrayVec;
+use std::marker::Model;
 
 // Room for the numbers of a line. A history of 96 pushes and 96 pops that leaves 95 values has 1,059.
 pub const LONGEST: usize = 1200;
 
-// The count of a line that has anything but numbers, or too many.
-const SPOILT: usize = LONGEST + 1;
+// The largest size of a number that is read, above every number of the lists.
+const LARGEST: i64 = 4294967296;
 
-// The largest number that is read, above every number of the lists, and what stands for one that is none or is larger.
-const LARGEST: u64 = 4294967296;
-
-const NO_NUMBER: u64 = LARGEST + 1;
-
-// The size of a number of which no digit is read.
-const NO_DIGIT: u64 = u64::MAX;
-
-// A line as far as it is read: how many numbers are whole, and of the next one its size so far and whether it is below
-// zero.
-#[derive(Clone, Copy)]
-pub struct Reading {
-    pub count: usize,
-    pub size: u64,
-    pub below: bool,
+// A line as far as it is read: the numbers that are whole, and of the next one its digits so far and whether a sign
+// stands before it. The numbers lie in the value itself: memory is fixed, so that reading can't want for it. Contracts
+// see a line as its numbers.
+#[derive(Drop)]
+pub struct Line {
+    numbers: ArrayVec<i64, LONGEST>,
+    digits: Option<i64>,
+    is_below: bool,
+    // It has anything but numbers, or too many, and is read as one with none. Numbers and this are no Option: behind what
+    // spoils a line the numbers of its rest are still read over, into the same place.
+    is_spoilt: bool,
 }
 
-// A number of that line, of which nothing is read.
-fn next(count: usize) -> Reading {
-    Reading {
-        count,
-        size: NO_DIGIT,
-        below: false,
-    }
+impl Model for Line {
+    ghost use Rattle.std.specs.Prelude.{List, ℤ};
+
+    ghost Value = { List ℤ };
+
+    ghost view = { λ l. l.numbers.items };
 }
 
-// A line of which nothing is read.
-pub fn begun() -> Reading {
-    next(0)
-}
-
-// A size with one digit more; that of no number stays so.
-fn joined(size: u64, byte: u8) -> u64 {
-    if byte < b'0' {
-        return NO_NUMBER;
-    }
-    if b'9' < byte {
-        return NO_NUMBER;
-    }
-    let digit = (byte - b'0') as u64;
-    if size == NO_DIGIT {
-        return digit;
-    }
-    if LARGEST < size {
-        return NO_NUMBER;
-    }
-    size * 10 + digit
-}
-
-// A number as it is kept; none where there is no such.
-fn kept(size: u64, below: bool) -> u64 {
-    if LARGEST < size {
-        return NONE;
-    }
-    if below {
-        if size == 0 {
-            return NONE;
-        }
-        return size * 2 - 1;
-    }
-    size * 2
-}
-
-// The number is whole.
-fn ended(reading: Reading, line: &mut [u64; LONGEST]) -> Reading {
-    let count = reading.count;
-    let word = kept(reading.size, reading.below);
-    if word != NONE {
-        if count < LONGEST {
-            line[count] = word;
-            return next(count + 1);
+impl Line {
+    // A line of which nothing is read.
+    pub fn new() -> Self
+        ensures { result ≡ [] }
+    {
+        Line {
+            numbers: ArrayVec::new(),
+            digits: None,
+            is_below: false,
+            is_spoilt: false,
         }
     }
-    next(SPOILT)
-}
 
-// A line with one byte more: a blank or the line's end behind each number, a sign before one that is below zero.
-pub fn with_byte(reading: Reading, byte: u8, line: &mut [u64; LONGEST]) -> Reading {
-    if byte == b' ' {
-        return ended(reading, line);
+    // One byte more: a blank or the line's end behind each number, a sign before one that is below zero.
+    pub fn feed(&mut self, byte: u8)
+        ensures one_more { length self.new ≤ length self.old + 1 }
+        ensures within { byte ≢ 32 → byte ≢ 10 → length self.new ≤ length self.old }
+    {
+        match byte {
+            b' ' | b'\n' => self.end_number(),
+            b'-' if self.digits.is_none() => self.is_below = true,
+            b'0'..=b'9' => self.add_digit(byte - b'0'),
+            _ => self.spoil(),
+        }
     }
-    if byte == b'\n' {
-        return ended(reading, line);
+
+    // The numbers of a line that is read to its end; none where it has anything else.
+    pub fn numbers(&self) -> &[i64]
+        ensures value { result.now ≡ self.now }
+        ensures fits { length result.now ≤ LONGEST }
+    {
+        self.numbers.as_slice()
     }
-    if byte == b'-' && reading.size == NO_DIGIT {
-        return Reading {
-            count: reading.count,
-            size: NO_DIGIT,
-            below: true,
+
+    // Begins the next line.
+    pub fn clear(&mut self)
+        ensures { self.new ≡ [] }
+    {
+        self.numbers.clear();
+        self.is_spoilt = false;
+    }
+
+    fn spoil(&mut self)
+        ensures { self.new ≡ [] }
+    {
+        self.numbers.clear();
+        self.is_spoilt = true;
+    }
+
+    fn add_digit(&mut self, digit: u8)
+        ensures { self.new ≡ self.old }
+    {
+        let size = self.digits.unwrap_or(0);
+        let longer = size.saturating_mul(10).saturating_add(i64::from(digit));
+        self.digits = Some(longer);
+    }
+
+    // The number that has ended; zero has no sign.
+    fn number(&self) -> Option<i64> {
+        match (self.digits?, self.is_below) {
+            (0, true) => None,
+            (size @ 0..=LARGEST, true) => Some(-size),
+            (size @ 0..=LARGEST, false) => Some(size),
+            _ => None,
+        }
+    }
+
+    fn end_number(&mut self)
+        ensures { length self.new ≤ length self.old + 1 }
+    {
+        let is_kept = match self.number() {
+            Some(number) if !self.is_spoilt => self.numbers.try_push(number).is_ok(),
+            _ => false,
         };
+        if !is_kept {
+            self.spoil();
+        }
+        self.digits = None;
+        self.is_below = false;
     }
-    Reading {
-        count: reading.count,
-        size: joined(reading.size, byte),
-        below: reading.below,
-    }
-}
-
-// The numbers of a line that is read to its end; none where it has anything else.
-pub fn whole(reading: Reading, line: &[u64; LONGEST]) -> &[u64] {
-    first(line, reading.count)
 }

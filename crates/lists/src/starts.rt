@@ -1,81 +1,55 @@
 // Objects, told by their family and what they hold.
-use crate::fields::{fits, from, narrow, natural, value};
+use crate::fields::{from, number_at};
 use families::codes::{start_form, start_from};
+use families::family::Family;
 use families::{Kind, Object};
 use values::coded::{Coded, StartForm};
 use values::sizes::{FULL, ROOM};
-use values::value::signed_of;
+use values::value::zigzag;
 
-// An object; where it is not good there is none.
-#[derive(Clone, Copy)]
-pub struct Made {
-    pub good: bool,
-    pub object: Object,
-}
-
-// The storage of what holds several values, and whether all are values.
-#[derive(Clone, Copy)]
-struct Items {
-    good: bool,
-    items: [i32; ROOM],
-}
-
-// What an object of that family is.
-pub fn kind_of(family: u64) -> Kind {
-    let coded = Coded {
-        number: narrow(family),
-        count: 0,
-        word: 0,
+// What an object of that family is; without a family it is taken for a stack.
+pub fn kind_of(family: Option<Family>) -> Kind {
+    let object = match family {
+        Some(Family::Register) => Object::default_register(),
+        Some(Family::WORegister) => Object::default_write_once_register(),
+        Some(Family::Vec) | None => Object::default_stack(),
     };
-    let object = start_from(coded, [0; ROOM]);
     object.kind
 }
 
 // Whether an object that starts so can hold so many values.
-fn takes(form: StartForm, count: u64) -> bool {
+fn takes(form: StartForm, count: u32) -> bool {
     match form {
         StartForm::Unknown => false,
         StartForm::Number => count == 1,
         StartForm::Flagged => count <= 1,
-        StartForm::Values => count <= FULL as u64,
+        StartForm::Values => count <= FULL,
     }
 }
 
-fn word_at(values: &[u64], place: usize) -> u64 {
-    if place < values.len() {
-        return value(values, place);
-    }
-    0
-}
-
-// The values, then zeros.
-fn items_at(values: &[u64]) -> Items {
-    let mut items = [0; ROOM];
-    let mut good = true;
-    let mut i = 0;
-    while i < ROOM {
-        let word = word_at(values, i);
-        let v = signed_of(narrow(word));
-        items[i] = v;
-        good = good && fits(word);
-        i += 1;
-    }
-    Items { good, items }
-}
-
-// n v1 … vn to the end of the line: the object of that family which holds just these values.
-pub fn object_of(family: u64, held: &[u64]) -> Made {
-    let number = narrow(family);
-    let count = natural(held, 0);
+// n v1 … vn to the end of the line: the object of that family which holds just these values. Where there is none, an
+// object that comes near it, with the largest count and the least value for those that can't be read.
+pub fn object_of(family: Option<Family>, held: &[i64]) -> Result<Object, Object> {
+    let number = match family {
+        Some(family) => family as u32,
+        None => u32::MAX,
+    };
+    let count = number_at(held, 0).unwrap_or(u32::MAX);
     let values = from(held, 1);
-    let read = items_at(values);
-    let items = read.items;
+    let mut items = [0; ROOM];
+    for (item, &value) in items.iter_mut().zip(values) {
+        *item = i32::try_from(value).unwrap_or(i32::MIN);
+    }
     let coded = Coded {
         number,
-        count: narrow(count),
-        word: narrow(value(values, 0)),
+        count,
+        word: zigzag(number_at(values, 0).unwrap_or(i32::MIN)),
     };
-    let good = takes(start_form(number), count) && values.len() as u64 == count && read.good;
     let object = start_from(coded, items);
-    Made { good, object }
+    let are_values = values.iter().all(|&value| i32::try_from(value).is_ok());
+    if takes(start_form(number), count) && values.len() == count as usize && are_values {
+        Ok(object)
+    } else {
+        Err(object)
+    }
 }

@@ -1,5 +1,6 @@
 pub mod FileRefusals
 pub mod Reader
+pub mod Answered
 pub mod Number
 pub mod Groups
 -- What bytes can begin with, and that it is read exactly then.

@@ -1,8 +1,6 @@
 -- A number of a corpus file, on the list of its bytes.
 use Rattle.std.specs.Prelude.{ℕ, ◌+◌, ◌*◌, ◌%◌, ◌^◌, Bool, true, false, List, [], ◌∷◌, ltb}
 use Rattle.values.specs.Value.{pick}
-use Rattle.numbers.specs.declared.NumberRead.{NumberRead}
-use Rattle.numbers.specs.declared.NumberRead.TheVariants.{Number, Refused}
 use Rattle.numbers.specs.declared.refusal.Refusal.TheVariants.{Cut, TooBig}
 use Rattle.numbers.specs.Reader.{Read, got, refused, Reader}
 
@@ -26,8 +24,3 @@ number_from (b ∷ bs) i sum = group_by (too_big i b) (ltb b 128) (number_from b
 
 unfoldable pub number : Reader ℕ
 number s = number_from s 0 0
-
--- as the code hands it back
-abbrev pub as_number : Read ℕ → NumberRead
-as_number (got n used) = Number n used
-as_number (refused why) = Refused why

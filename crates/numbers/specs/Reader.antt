@@ -1,5 +1,6 @@
 -- Reading fields one after the other, from left to right; the first refusal stands.
-use Rattle.std.specs.Prelude.{ℕ, ◌+◌, List, drop}
+use Rattle.std.specs.Prelude.{ℕ, ◌+◌, List, Result, Ok, Err, drop}
+use Rattle.numbers.specs.declared.Got.{Got}
 use Rattle.numbers.specs.declared.refusal.Refusal.{Refusal}
 
 infixl 20 ◌then◌
@@ -35,3 +36,8 @@ behind g s (refused why) = refused why
 
 unfoldable pub ◌then◌ : {A B : Type 0} → Reader A → (A → Reader B) → Reader B
 ◌then◌ f g s = behind g s (f s)
+
+-- as the code hands it back
+abbrev pub as_read : {A : Type 0} → Read A → Result (Got A) Refusal
+as_read (got a used) = Ok (record { value = a; next = used })
+as_read (refused why) = Err why

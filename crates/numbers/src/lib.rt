@@ -4,22 +4,23 @@
 pub mod refusal;
 
 ghost use Rattle.std.specs.Prelude.{◌≡◌, ◌≤◌, ◌<◌, ◌+◌, ◌*◌, ◌%◌, ◌^◌};
-ghost use Rattle.numbers.specs.Number.{too_big, number, as_number};
+ghost use Rattle.numbers.specs.Reader.{as_read};
+ghost use Rattle.numbers.specs.Number.{too_big, number};
 
 use refusal::Refusal;
 
-// A number, and the place behind it.
-#[derive(Clone, Copy)]
-pub enum NumberRead {
-    Number { value: u32, next: usize },
-    Refused(Refusal),
+// What a field says, and the place behind it.
+#[derive(Clone, Copy, Debug, PartialEq, Eq)]
+pub struct Got<T> {
+    pub value: T,
+    pub next: usize,
 }
 
 // The low seven bits.
 fn group(b: u8) -> u32
     ensures { result ≡ b % 128 }
 {
-    (b & 127) as u32
+    u32::from(b & 127)
 }
 
 // The group put above the i groups that are there.
@@ -31,31 +32,26 @@ fn join(value: u32, g: u32, i: usize) -> u32
 }
 
 // A fifth byte above 15.
+#[tactic(auto, unfolding(crate::specs::Number::too_big))]
 fn too_big(i: usize, b: u8) -> bool
     ensures { result ≡ too_big i b }
 {
-    if 3 < i { 15 < b } else { false }
+    3 < i && 15 < b
 }
 
 // The number that opens the bytes.
-pub fn read_number(bytes: &[u8]) -> NumberRead
-    ensures { result ≡ as_number (number bytes.now) }
+pub fn read_number(bytes: &[u8]) -> Result<Got<u32>, Refusal>
+    ensures { result ≡ as_read (number bytes.now) }
 {
-    let mut value: u32 = 0;
-    let mut i: usize = 0;
-    while i < bytes.len() {
-        let b = bytes[i];
+    let mut value = 0;
+    for (i, &b) in bytes.iter().enumerate() {
         if too_big(i, b) {
-            let why = Refusal::TooBig;
-            return NumberRead::Refused(why);
+            return Err(Refusal::TooBig);
         }
-        let g = group(b);
-        value = join(value, g, i);
+        value = join(value, group(b), i);
         if b < 128 {
-            return NumberRead::Number { value, next: i + 1 };
+            return Ok(Got { value, next: i + 1 });
         }
-        i += 1;
     }
-    let why = Refusal::Cut;
-    NumberRead::Refused(why)
+    Err(Refusal::Cut)
 }

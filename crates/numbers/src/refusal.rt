@@ -2,7 +2,7 @@
 ghost use Rattle.std.specs.Prelude.{◌≡◌};
 ghost use Rattle.numbers.specs.FileRefusals.{number_of};
 
-#[derive(Clone, Copy)]
+#[derive(Clone, Copy, Debug, PartialEq, Eq)]
 pub enum Refusal {
     TooLong,
     Unopened,
@@ -13,15 +13,18 @@ pub enum Refusal {
 }
 
 // Its number in document 01.
-pub fn number(refusal: Refusal) -> u8
-    ensures { result ≡ number_of refusal }
-{
-    match refusal {
-        Refusal::TooLong => 20,
-        Refusal::Unopened => 21,
-        Refusal::Cut => 22,
-        Refusal::TooBig => 23,
-        Refusal::Unknown => 24,
-        Refusal::StartTooDeep => 25,
+#[tactic(auto, unfolding(crate::specs::FileRefusals::number_of))]
+impl From<Refusal> for u8 {
+    ghost from_gives = { λ why number. number ≡ number_of why };
+
+    fn from(why: Refusal) -> u8 {
+        match why {
+            Refusal::TooLong => 20,
+            Refusal::Unopened => 21,
+            Refusal::Cut => 22,
+            Refusal::TooBig => 23,
+            Refusal::Unknown => 24,
+            Refusal::StartTooDeep => 25,
+        }
     }
 }

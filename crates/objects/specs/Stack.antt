@@ -1,6 +1,6 @@
 -- The stack: Push(v) gives PushOk; Pop gives PopOk(top or nothing) and sets the place that it frees to zero;
 -- Len gives LenOk(n). First as a list of values, then in storage with a depth beside it.
-use Rattle.std.specs.Prelude.{ℕ, zero, suc, ◌+◌, ◌-◌, Bool, true, false, List, [], ◌∷◌, length, get_or, set, ℤ, pos, ltb, leb, eqb}
+use Rattle.std.specs.Prelude.{ℕ, zero, suc, ◌+◌, ◌-◌, Bool, true, false, List, [], ◌∷◌, length, get_or, set, ℤ, pos, ltb, leb, eqb, Option, Some, None, Result, Ok, Err}
 use Rattle.values.specs.Sizes.{room, start_room}
 use Rattle.values.specs.Held.{held}
 use Rattle.values.specs.Value.{pick, zigzag, signed}
@@ -8,23 +8,20 @@ use Rattle.values.specs.Coded.{coded, maybe_coded, maybe_from}
 use Rattle.values.specs.declared.coded.Coded.{Coded}
 use Rattle.values.specs.declared.coded.Form.{Form}
 use Rattle.values.specs.declared.coded.Form.TheVariants.{Unknown, Bare, Number, Flagged}
-use Rattle.values.specs.declared.value.Maybe.{Maybe}
-use Rattle.values.specs.declared.value.Maybe.TheVariants.{Nothing, Value}
 use Rattle.values.specs.declared.refusal.Refusal.TheVariants.{NoRoom, StartTooDeep, OutOfShape}
 use Rattle.values.specs.declared.held.Held.{Held}
 use Rattle.values.specs.declared.held.Acted.{Acted}
-use Rattle.values.specs.declared.refusal.Check.{Check}
-use Rattle.values.specs.declared.refusal.Check.TheVariants.{Clear, Refused}
 use Rattle.objects.specs.declared.vec.VecOp.{VecOp}
 use Rattle.objects.specs.declared.vec.VecOp.TheVariants.{Push, Pop, Len}
 use Rattle.objects.specs.declared.vec.VecRet.{VecRet}
 use Rattle.objects.specs.declared.vec.VecRet.TheVariants.{PushOk, PopOk, LenOk}
+use Rattle.values.specs.declared.refusal.Refusal.{Refusal}
 
 -- the values, the top first
 
-abbrev pub first : List ℤ → Maybe
-first [] = Nothing
-first (v ∷ vs) = Value v
+abbrev pub first : List ℤ → Option ℤ
+first [] = None
+first (v ∷ vs) = Some v
 
 abbrev pub rest : List ℤ → List ℤ
 rest [] = []
@@ -88,14 +85,14 @@ popped (LenOk n) = false
 
 -- refusals: a depth over 96 is out of shape, an initial one over 32 too deep, and a Push on a stack of 96 has no room
 
-unfoldable pub depth_check : ℕ → Check
-depth_check d = pick (ltb room d) (Refused OutOfShape) Clear
+unfoldable pub depth_check : ℕ → Result Unit Refusal
+depth_check d = pick (ltb room d) (Err OutOfShape) (Ok tt)
 
-unfoldable pub low_check : ℕ → Check
-low_check d = pick (ltb start_room d) (Refused StartTooDeep) Clear
+unfoldable pub low_check : ℕ → Result Unit Refusal
+low_check d = pick (ltb start_room d) (Err StartTooDeep) (Ok tt)
 
-unfoldable pub stack_room : ℕ → VecOp → Check
-stack_room d op = pick (pushes op) (pick (eqb d room) (Refused NoRoom) Clear) Clear
+unfoldable pub stack_room : ℕ → VecOp → Result Unit Refusal
+stack_room d op = pick (pushes op) (pick (eqb d room) (Err NoRoom) (Ok tt)) (Ok tt)
 
 -- the storage
 
@@ -108,8 +105,8 @@ held_values items (suc d) = get_or items d (pos 0) ∷ held_values items d
 unfoldable pub item_at : List ℤ → ℕ → ℤ
 item_at items i = pick (ltb i room) (get_or items i (pos 0)) (pos 0)
 
-unfoldable pub top_of : List ℤ → ℕ → Maybe
-top_of items d = pick (eqb d 0) Nothing (Value (item_at items (d - 1)))
+unfoldable pub top_of : List ℤ → ℕ → Option ℤ
+top_of items d = pick (eqb d 0) None (Some (item_at items (d - 1)))
 
 unfoldable pub storage_answer : List ℤ → ℕ → VecOp → VecRet
 storage_answer items d (Push v) = PushOk

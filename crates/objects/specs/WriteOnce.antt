@@ -1,34 +1,32 @@
 -- The write-once register: Write(v) on nothing stores, WriteOk; on an equal value WriteOk; on another value
 -- WriteFail, nothing stored. Read answers ReadOk(nothing or value).
-use Rattle.std.specs.Prelude.{ℕ, Bool, true, false, ℤ, eqb}
+use Rattle.std.specs.Prelude.{ℕ, Bool, true, false, ℤ, eqb, Option, Some, None}
 use Rattle.values.specs.Value.{pick, eq_z, zigzag, signed}
 use Rattle.values.specs.Coded.{coded, maybe_coded, maybe_from}
 use Rattle.values.specs.declared.coded.Coded.{Coded}
 use Rattle.values.specs.declared.coded.Form.{Form}
 use Rattle.values.specs.declared.coded.Form.TheVariants.{Unknown, Bare, Number, Flagged}
-use Rattle.values.specs.declared.value.Maybe.{Maybe}
-use Rattle.values.specs.declared.value.Maybe.TheVariants.{Nothing, Value}
 use Rattle.objects.specs.declared.write_once_register.WORegisterOp.{WORegisterOp}
 use Rattle.objects.specs.declared.write_once_register.WORegisterOp.TheVariants.{Write, Read}
 use Rattle.objects.specs.declared.write_once_register.WORegisterRet.{WORegisterRet}
 use Rattle.objects.specs.declared.write_once_register.WORegisterRet.TheVariants.{WriteOk, WriteFail, ReadOk}
 
 -- a write succeeds on nothing and on an equal value
-unfoldable pub writes : Maybe → ℤ → Bool
-writes Nothing v = true
-writes (Value x) v = eq_z x v
+unfoldable pub writes : Option ℤ → ℤ → Bool
+writes None v = true
+writes (Some x) v = eq_z x v
 
 unfoldable pub write_answer : Bool → WORegisterRet
 write_answer true = WriteOk
 write_answer false = WriteFail
 
-unfoldable pub once_answer : Maybe → WORegisterOp → WORegisterRet
+unfoldable pub once_answer : Option ℤ → WORegisterOp → WORegisterRet
 once_answer m (Write v) = write_answer (writes m v)
 once_answer m Read = ReadOk m
 
-unfoldable pub once_after : Maybe → WORegisterOp → Maybe
-once_after Nothing (Write v) = Value v
-once_after (Value x) (Write v) = Value x
+unfoldable pub once_after : Option ℤ → WORegisterOp → Option ℤ
+once_after None (Write v) = Some v
+once_after (Some x) (Write v) = Some x
 once_after m Read = m
 
 -- in numbers, from 0 in the order Write, Read; WriteOk, WriteFail, ReadOk

@@ -3,21 +3,22 @@ ghost use Rattle.std.specs.Prelude.{◌≡◌};
 ghost use Rattle.values.specs.Coded.{same_coded};
 ghost use Rattle.objects.specs.Register.{register_answer, register_after, register_op_form, register_op_from, register_ret_coded, register_ret_form, register_ret_from};
 
-use values::coded::{Coded, Form};
-use values::value::{same_value, signed_of, zigzag};
+use values::coded::{Coded, Form, Told};
+use values::value::{signed_of, zigzag};
 
-#[derive(Clone, Copy)]
+#[derive(Clone, Copy, Debug, PartialEq, Eq)]
 pub enum RegisterOp {
     Write(i32),
     Read,
 }
 
-#[derive(Clone, Copy)]
+#[derive(Clone, Copy, Debug, PartialEq, Eq)]
 pub enum RegisterRet {
     WriteOk,
     ReadOk(i32),
 }
 
+#[tactic(auto, unfolding(crate::specs::Register::register_answer))]
 pub fn answer(value: i32, op: RegisterOp) -> RegisterRet
     ensures { result ≡ register_answer value op }
 {
@@ -27,6 +28,7 @@ pub fn answer(value: i32, op: RegisterOp) -> RegisterRet
     }
 }
 
+#[tactic(auto, unfolding(crate::specs::Register::register_after))]
 pub fn after(value: i32, op: RegisterOp) -> i32
     ensures { result ≡ register_after value op }
 {
@@ -40,77 +42,63 @@ pub fn after(value: i32, op: RegisterOp) -> i32
 pub fn right(value: i32, op: RegisterOp, ret: RegisterRet) -> bool
     ensures { result ≡ same_coded (register_ret_coded (register_answer value op)) (register_ret_coded ret) }
 {
-    match op {
-        RegisterOp::Write(_) => match ret {
-            RegisterRet::WriteOk => true,
-            RegisterRet::ReadOk(_) => false,
-        },
-        RegisterOp::Read => match ret {
-            RegisterRet::WriteOk => false,
-            RegisterRet::ReadOk(v) => same_value(value, v),
-        },
+    answer(value, op) == ret
+}
+
+impl Told for RegisterOp {
+    ghost form_of = { register_op_form };
+
+    ghost told_of = { register_op_from };
+
+    #[tactic(auto, unfolding(crate::specs::Register::register_op_form))]
+    fn form(number: u32) -> Form {
+        match number {
+            0 => Form::Number,
+            1 => Form::Bare,
+            _ => Form::Unknown,
+        }
+    }
+
+    #[tactic(auto, unfolding(crate::specs::Register::register_op_from))]
+    fn told(coded: Coded) -> RegisterOp {
+        match coded.number {
+            0 => RegisterOp::Write(signed_of(coded.word)),
+            _ => RegisterOp::Read,
+        }
     }
 }
 
-// What follows the number of an operation.
-pub fn op_form(number: u32) -> Form
-    ensures { result ≡ register_op_form number }
-{
-    if number == 0 {
-        return Form::Number;
+impl Told for RegisterRet {
+    ghost form_of = { register_ret_form };
+
+    ghost told_of = { register_ret_from };
+
+    #[tactic(auto, unfolding(crate::specs::Register::register_ret_form))]
+    fn form(number: u32) -> Form {
+        match number {
+            0 => Form::Bare,
+            1 => Form::Number,
+            _ => Form::Unknown,
+        }
     }
-    if number == 1 {
-        return Form::Bare;
+
+    #[tactic(auto, unfolding(crate::specs::Register::register_ret_from))]
+    fn told(coded: Coded) -> RegisterRet {
+        match coded.number {
+            0 => RegisterRet::WriteOk,
+            _ => RegisterRet::ReadOk(signed_of(coded.word)),
+        }
     }
-    Form::Unknown
 }
 
-pub fn op_from(coded: Coded) -> RegisterOp
-    ensures { result ≡ register_op_from coded }
-{
-    if coded.number == 0 {
-        let v = signed_of(coded.word);
-        return RegisterOp::Write(v);
-    }
-    RegisterOp::Read
-}
+impl From<RegisterRet> for Coded {
+    ghost from_gives = { λ ret coded. coded ≡ register_ret_coded ret };
 
-// What follows the number of a return.
-pub fn ret_form(number: u32) -> Form
-    ensures { result ≡ register_ret_form number }
-{
-    if number == 0 {
-        return Form::Bare;
-    }
-    if number == 1 {
-        return Form::Number;
-    }
-    Form::Unknown
-}
-
-pub fn ret_from(coded: Coded) -> RegisterRet
-    ensures { result ≡ register_ret_from coded }
-{
-    if coded.number == 0 {
-        return RegisterRet::WriteOk;
-    }
-    let v = signed_of(coded.word);
-    RegisterRet::ReadOk(v)
-}
-
-pub fn ret_coded(ret: RegisterRet) -> Coded
-    ensures { result ≡ register_ret_coded ret }
-{
-    match ret {
-        RegisterRet::WriteOk => Coded {
-            number: 0,
-            count: 0,
-            word: 0,
-        },
-        RegisterRet::ReadOk(v) => Coded {
-            number: 1,
-            count: 1,
-            word: zigzag(v),
-        },
+    #[tactic(auto, unfolding(crate::specs::Register::register_ret_coded))]
+    fn from(ret: RegisterRet) -> Coded {
+        match ret {
+            RegisterRet::WriteOk => Coded::bare(0),
+            RegisterRet::ReadOk(v) => Coded::single(1, zigzag(v)),
+        }
     }
 }

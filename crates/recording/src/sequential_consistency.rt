@@ -1,98 +1,78 @@
 // A tester of sequential consistency: it records what happens and keeps no notes.
-ghost use Rattle.std.specs.Prelude.{◌≡◌, true};
-ghost use Rattle.stepping.specs.Shape.{shaped_with};
-ghost use Rattle.recording.specs.Testers.{new_sequential, sequential_invoke, sequential_return, sequential_invret, sequential_len};
+ghost use Rattle.std.specs.Prelude.{◌≡◌, ◌*◌, replicate};
+ghost use Rattle.values.specs.Sizes.{threads, capacity};
+ghost use Rattle.stepping.specs.OneStep.{event_of};
+ghost use Rattle.recording.specs.Testers.{new_sequential, sequential_after, sequential_invoke, sequential_return, sequential_held, sequential_shaped};
 
-use crate::consistency_tester;
+use crate::consistency_tester::{After, ConsistencyTester, New, record_event};
 use families::event::Event;
 use families::{Object, Op, Ret};
 use shape::look_at;
+use shape::notes::NOTES;
 use stepping::histories::{History, begin};
-use stepping::recorded::{Made, Recorded, is_taken};
 
 #[derive(Clone, Copy)]
 pub struct SequentialConsistencyTester {
     pub history: History,
 }
 
-// A new tester, and what making it came to.
-#[derive(Clone, Copy)]
-pub struct New {
-    pub made: Made,
-    pub tester: SequentialConsistencyTester,
-}
-
-// The tester after an event, and what recording it came to.
-#[derive(Clone, Copy)]
-pub struct After {
-    pub recorded: Recorded,
-    pub tester: SequentialConsistencyTester,
-}
-
 impl SequentialConsistencyTester {
-    pub fn new(start: Object) -> New
-        ensures { result ≡ new_sequential start }
+    fn record(self, event: Event) -> After<SequentialConsistencyTester>
+        ensures { result ≡ sequential_after (event_of (sequential_shaped self) self.history event) }
     {
-        let begun = begin(start);
-        let made = begun.made;
-        let history = begun.history;
-        let tester = SequentialConsistencyTester { history };
-        New { made, tester }
-    }
-
-    // Puts an operation of the thread in flight.
-    pub fn on_invoke(self, thread: u32, op: Op) -> After
-        ensures { result ≡ sequential_invoke self thread op }
-    {
-        let before = self.history;
-        let event = Event::Invoked { thread, op };
-        let step = consistency_tester::record_event(before, event, true);
-        let recorded = step.recorded;
-        let history = step.history;
-        let tester = SequentialConsistencyTester { history };
-        After { recorded, tester }
-    }
-
-    // Completes the thread's operation in flight.
-    pub fn on_return(self, thread: u32, ret: Ret) -> After
-        ensures { result ≡ sequential_return self thread ret }
-    {
-        let before = self.history;
-        let event = Event::Returned { thread, ret };
-        let step = consistency_tester::record_event(before, event, true);
-        let recorded = step.recorded;
-        let history = step.history;
-        let tester = SequentialConsistencyTester { history };
-        After { recorded, tester }
-    }
-
-    // The two in turn.
-    pub fn on_invret(self, thread: u32, op: Op, ret: Ret) -> After
-        ensures { result ≡ sequential_invret self thread op ret }
-    {
-        let after = self.on_invoke(thread, op);
-        let recorded = after.recorded;
-        if is_taken(recorded) {
-            let tester = after.tester;
-            return tester.on_return(thread, ret);
+        let step = record_event(self.history, event, true);
+        After {
+            recorded: step.recorded,
+            tester: SequentialConsistencyTester {
+                history: step.history,
+            },
         }
-        after
+    }
+}
+
+impl ConsistencyTester for SequentialConsistencyTester {
+    ghost begun = { new_sequential };
+
+    ghost invoked = { sequential_invoke };
+
+    ghost returned = { sequential_return };
+
+    ghost held = { sequential_held };
+
+    ghost noted = { λ t. replicate (capacity * threads) 0 };
+
+    ghost shaped = { sequential_shaped };
+
+    #[tactic(auto, unfolding(crate::specs::Testers::new_sequential))]
+    fn new(start: Object) -> New<SequentialConsistencyTester> {
+        let begun = begin(start);
+        New {
+            made: begun.made,
+            tester: SequentialConsistencyTester {
+                history: begun.history,
+            },
+        }
     }
 
-    // Whether calls could have made the record; if not, it gets number 9.
-    pub fn is_in_shape(self) -> bool
-        ensures { result ≡ shaped_with true self.history }
-    {
-        let history = self.history;
-        let look = look_at(history, true);
-        look.ok
+    #[tactic(auto, unfolding(crate::specs::Testers::sequential_invoke))]
+    fn on_invoke(self, thread: u32, op: Op) -> After<SequentialConsistencyTester> {
+        self.record(Event::Invoked { thread, op })
     }
 
-    // How many operations are held, completed and in flight.
-    pub fn len(self) -> usize
-        ensures { result ≡ sequential_len self }
-    {
-        let history = self.history;
-        consistency_tester::size(history, true)
+    #[tactic(auto, unfolding(crate::specs::Testers::sequential_return))]
+    fn on_return(self, thread: u32, ret: Ret) -> After<SequentialConsistencyTester> {
+        self.record(Event::Returned { thread, ret })
+    }
+
+    fn history(self) -> History {
+        self.history
+    }
+
+    fn notes(&self) -> &[u8; NOTES] {
+        &[0; NOTES]
+    }
+
+    fn is_in_shape(&self) -> bool {
+        look_at(&self.history, true).is_some()
     }
 }

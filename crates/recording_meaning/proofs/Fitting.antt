@@ -1,6 +1,6 @@
 -- Inputs within document 01's sizes, of the object's own, draw nothing but what the Rust knows: 0, 1, 4 and 5.
-use Rattle.std.specs.Prelude.{ℕ, ◌+◌, ◌<◌, ◌≤◌, ◌≡◌, refl, Bool, true, false, cond, [], ◌∷◌, ◌++◌}
-use Rattle.std.proofs.Common.{sym, ap, ◌∙◌, subst, arith}
+use Rattle.std.specs.Prelude.{ℕ, ◌+◌, ◌<◌, ◌≤◌, ◌≡◌, refl, Bool, true, false, cond, [], ◌∷◌, ◌++◌, is_ok}
+use Rattle.std.proofs.Common.{sym, ap, ◌∙◌, subst, arith, Result, Ok, Err}
 use Rattle.history.specs.Lists.{and_both}
 use Rattle.history.specs.Events.{Events, invoked, returned, ThreadsBelow}
 use Rattle.values.specs.Sizes.{threads, capacity}
@@ -11,14 +11,9 @@ use Rattle.families.specs.declared.Kind.{Kind}
 use Rattle.families.specs.declared.Object.{Object}
 use Rattle.families.specs.declared.Op.{Op}
 use Rattle.families.specs.declared.Ret.{Ret}
-use Rattle.values.specs.declared.refusal.Check.{Check}
-use Rattle.values.specs.declared.refusal.Check.TheVariants.{Clear}
 use Rattle.stepping.specs.declared.histories.History.{History}
-use Rattle.stepping.specs.declared.recorded.Recorded.{Recorded}
-use Rattle.stepping.specs.declared.recorded.Recorded.TheVariants.{Refused}
 use Rattle.stepping.specs.declared.recorded.Reason.{Reason}
 use Rattle.stepping.specs.Shape.{kind_of}
-use Rattle.stepping.specs.EventSteps.{is_taken}
 use Rattle.recording_meaning.specs.Cases.{Barred, invalid, stranger, foreign}
 use Rattle.recording_meaning.specs.Models.{Model}
 use Rattle.recording_meaning.specs.Numbers.{op_said, ret_said}
@@ -42,21 +37,22 @@ use Rattle.recording_meaning.specs.Inputs.{Input, invoke, return, invret, Inputs
 use Rattle.recording_meaning.specs.InputLaws.{invocations_both}
 use Rattle.recording_meaning.proofs.TesterFeeding.{step_of, good_give}
 use Rattle.recording_meaning.specs.RustReading.{comparable, all_comparable}
+use Rattle.values.specs.declared.refusal.Refusal.{Refusal}
 
 module _ (M : Model) (L : Lawful M) where
-  fits_barred : {h : History} {t : ℕ} {said : Check} {r : Reason} → t < threads → said ≡ Clear → Barred h t said r → comparable (Refused r) ≡ true
+  fits_barred : {h : History} {t : ℕ} {said : Result Unit Refusal} {r : Reason} → t < threads → said ≡ Ok tt → Barred h t said r → comparable (Err r) ≡ true
   fits_barred k f (invalid v) = refl
   fits_barred k f (stranger v m) = absurd (omega arith)
   fits_barred k f (foreign v m d) = absurd (let z : ◌≡◌ {A = ℕ} 0 1 = cc in omega arith)
 
-  fits_invoke : {s next : M.Tester} {t : ℕ} {op : Op} {r : Recorded} → t < threads → op_said M s op ≡ Clear → (M.history s).count < capacity
+  fits_invoke : {s next : M.Tester} {t : ℕ} {op : Op} {r : Result Unit Reason} → t < threads → op_said M s op ≡ Ok tt → (M.history s).count < capacity
       → InvokeTurn M s t op r next → comparable r ≡ true
   fits_invoke k f c (invoke_refused w) = fits_barred k f w
   fits_invoke k f c (second a b h w) = refl
   fits_invoke k f c (no_room a b m) = absurd (omega arith)
   fits_invoke k f c (invoke_taken a b m h w) = refl
 
-  fits_return : {s next : M.Tester} {t : ℕ} {ret : Ret} {r : Recorded} → t < threads → ret_said M s ret ≡ Clear → ReturnTurn M s t ret r next
+  fits_return : {s next : M.Tester} {t : ℕ} {ret : Ret} {r : Result Unit Reason} → t < threads → ret_said M s ret ≡ Ok tt → ReturnTurn M s t ret r next
       → comparable r ≡ true
   fits_return k f (return_refused w) = fits_barred k f w
   fits_return k f (stray a b h w) = refl
@@ -71,7 +67,7 @@ module _ (M : Model) (L : Lawful M) where
     fits (invoke t op) H k f c = fits_invoke k.0 f.0 (omega arith) (invoke_turn M L s g t op)
     fits (return t ret) H k f c = fits_return k.0 f.0 (return_turn M L s g t ret)
     fits (invret t op ret) H k f c =
-        subst (λ (a : Recorded × M.Tester). comparable a.0 ≡ true) (sym (L.invrets s t op ret)) (go (is_taken (M.on_invoke s t op).0))
+        subst (λ (a : Result Unit Reason × M.Tester). comparable a.0 ≡ true) (sym (L.invrets s t op ret)) (go (is_ok (M.on_invoke s t op).0))
       where
         next : M.Tester
         next = (M.on_invoke s t op).1
@@ -94,17 +90,17 @@ module _ (M : Model) (L : Lawful M) where
 
   -- no more invocations are recorded than named
   takes_few : (s : M.Tester) (v : Input) → invocations_in (takes M s v) ≤ invocations_in (named v)
-  takes_few s (invoke t op) = go (is_taken (M.on_invoke s t op).0)
+  takes_few s (invoke t op) = go (is_ok (M.on_invoke s t op).0)
     where
       go : (b : Bool) → invocations_in (cond b (invoked t op ∷ []) []) ≤ 1
       go true = omega arith
       go false = omega arith
-  takes_few s (return t ret) = go (is_taken (M.on_return s t ret).0)
+  takes_few s (return t ret) = go (is_ok (M.on_return s t ret).0)
     where
       go : (b : Bool) → invocations_in (cond b (returned t ret ∷ []) []) ≤ 0
       go true = omega arith
       go false = omega arith
-  takes_few s (invret t op ret) = go (is_taken (M.on_invoke s t op).0) (is_taken (M.on_invret s t op ret).0)
+  takes_few s (invret t op ret) = go (is_ok (M.on_invoke s t op).0) (is_ok (M.on_invret s t op ret).0)
     where
       go : (b c : Bool) → invocations_in (cond b (invoked t op ∷ cond c (returned t ret ∷ []) []) []) ≤ 1
       go true true = omega arith

@@ -1,7 +1,7 @@
 -- Recording means what Meaning says, for both testers by one proof.
 use Rattle.std.specs.Prelude.{ℕ, ◌≡◌, ◌↔◌, false}
 use Rattle.std.proofs.Math.Path.{refl, ap}
-use Rattle.std.proofs.Common.{sym, ◌∙◌, subst}
+use Rattle.std.proofs.Common.{sym, ◌∙◌, subst, Result, Ok, Err}
 use Rattle.history.specs.Lists.{not_both}
 use Rattle.history.specs.Rows.{Rows, operations}
 use Rattle.history.specs.Notes.{Tells}
@@ -13,19 +13,13 @@ use Rattle.families.specs.Families.{families}
 use Rattle.families.specs.declared.Object.{Object}
 use Rattle.families.specs.declared.Op.{Op}
 use Rattle.families.specs.declared.Ret.{Ret}
-use Rattle.values.specs.declared.refusal.Check.{Check}
-use Rattle.values.specs.declared.refusal.Check.TheVariants.{Clear, Refused as CRefused}
 use Rattle.stepping.specs.declared.histories.History.{History}
-use Rattle.stepping.specs.declared.recorded.Made.{Made}
-use Rattle.stepping.specs.declared.recorded.Made.TheVariants.{New, Refused as MRefused}
-use Rattle.stepping.specs.declared.recorded.Recorded.{Recorded}
-use Rattle.stepping.specs.declared.recorded.Recorded.TheVariants.{Refused}
 use Rattle.stepping.specs.declared.recorded.Reason.{Reason}
 use Rattle.recording.specs.declared.linearizability.LinearizabilityTester.{LinearizabilityTester}
 use Rattle.recording.specs.declared.sequential_consistency.SequentialConsistencyTester.{SequentialConsistencyTester}
 use Rattle.stepping.specs.Record.{fresh}
 use Rattle.stepping.specs.Shape.{InShape, NotesInShape}
-use Rattle.stepping.specs.EventSteps.{is_taken, breaks, size_of}
+use Rattle.stepping.specs.EventSteps.{breaks, size_of}
 use Rattle.recording_meaning.specs.Beginning.{begun_clear, begun_refused}
 use Rattle.recording_meaning.specs.Cases.{Barred, barred_keeps}
 use Rattle.recording_meaning.specs.ShapeExactly.{shape_exactly, tester_exactly}
@@ -55,23 +49,23 @@ use Rattle.recording_meaning.proofs.TesterFeeding.{new_rows, new_valid, fed_rows
 use Rattle.recording_meaning.proofs.Wellfed.{fed_history}
 use Rattle.recording_meaning.proofs.Nines.{no_nine_invoke, no_nine_return, no_nine_invret, nine_invoke, nine_return, nine_invret}
 use Rattle.recording_meaning.specs.Meaning.{Leaves, Fresh, NewLeaves, Means}
+use Rattle.values.specs.declared.refusal.Refusal.{Refusal}
 
 module _ (M : Model) (L : Lawful M) where
-  refused_leaves : {s : M.Tester} {t : ℕ} {said : Check} {rows : Rows families} {r : Reason} → Barred (M.history s) t said r → Leaves M s rows (Refused r) s
-  unfolding is_taken
+  refused_leaves : {s : M.Tester} {t : ℕ} {said : Result Unit Refusal} {rows : Rows families} {r : Reason} → Barred (M.history s) t said r → Leaves M s rows (Err r) s
   refused_leaves w = record { recorded = λ e. not_taken e refl; turned_off = λ e. not_both e (barred_keeps w); refused = λ e b. refl }
 
-  invoke_leaves : {s next : M.Tester} {t : ℕ} {op : Op} {r : Recorded} → InvokeTurn M s t op r next
+  invoke_leaves : {s next : M.Tester} {t : ℕ} {op : Op} {r : Result Unit Reason} → InvokeTurn M s t op r next
       → Leaves M s (extend families (tester_rows M s) t (put families M.keep (tester_rows M s) t op)) r next
-  unfolding is_taken breaks
+  unfolding breaks
   invoke_leaves (invoke_refused w) = refused_leaves w
   invoke_leaves (second a b h w) = record { recorded = λ e. not_taken e refl; turned_off = λ e. (h, w); refused = λ e b. not_both refl b }
   invoke_leaves (no_room a b c) = record { recorded = λ e. not_taken e refl; turned_off = λ e. not_both e refl; refused = λ e b. refl }
   invoke_leaves (invoke_taken a b c h w) = record { recorded = λ e. w; turned_off = λ e. not_both e refl; refused = λ e b. not_both refl e }
 
-  return_leaves : {s next : M.Tester} {t : ℕ} {ret : Ret} {r : Recorded} → ReturnTurn M s t ret r next
+  return_leaves : {s next : M.Tester} {t : ℕ} {ret : Ret} {r : Result Unit Reason} → ReturnTurn M s t ret r next
       → Leaves M s (close families (tester_rows M s) t ret) r next
-  unfolding is_taken breaks
+  unfolding breaks
   return_leaves (return_refused w) = refused_leaves w
   return_leaves (stray a b h w) = record { recorded = λ e. not_taken e refl; turned_off = λ e. (h, w); refused = λ e b. not_both refl b }
   return_leaves (return_taken i a b h w) = record { recorded = λ e. w; turned_off = λ e. not_both e refl; refused = λ e b. not_both refl e }
@@ -88,13 +82,13 @@ module _ (M : Model) (L : Lawful M) where
     blank = e;
   }
 
-  new_leaves : (start : Object) (m : Made) → M.made start ≡ m → NewLeaves M start m (M.new start)
-  new_leaves start New e =
-      let w = (made_exactly start New).0 (sym (L.makes start) ∙ e) in
-      new_fresh start start ((L.begins start).0 ∙ begun_clear start ((start_exactly start.kind Clear).1 w))
-  new_leaves start (MRefused r) e =
-      let w = (made_exactly start (MRefused r)).0 (sym (L.makes start) ∙ e) in
-      new_fresh start (new_stack zeros 0) ((L.begins start).0 ∙ begun_refused start r ((start_exactly start.kind (CRefused r)).1 w))
+  new_leaves : (start : Object) (m : Result Unit Refusal) → M.made start ≡ m → NewLeaves M start m (M.new start)
+  new_leaves start (Ok tt) e =
+      let w = (made_exactly start (Ok tt)).0 (sym (L.makes start) ∙ e) in
+      new_fresh start start ((L.begins start).0 ∙ begun_clear start ((start_exactly start.kind (Ok tt)).1 w))
+  new_leaves start (Err r) e =
+      let w = (made_exactly start (Err r)).0 (sym (L.makes start) ∙ e) in
+      new_fresh start (new_stack zeros 0) ((L.begins start).0 ∙ begun_refused start r ((start_exactly start.kind (Err r)).1 w))
 
   len_out : (s : M.Tester) → M.shaped s ≡ false → M.len s ≡ 0
   unfolding size_of
@@ -102,7 +96,7 @@ module _ (M : Model) (L : Lawful M) where
 
   pub meaning : Means M
   meaning = record {
-    new_number = λ start m. subst (λ (x : Made). (x ≡ m) ↔ MadeWhen start m) (sym (L.makes start)) (made_exactly start m);
+    new_number = λ start m. subst (λ (x : Result Unit Refusal). (x ≡ m) ↔ MadeWhen start m) (sym (L.makes start)) (made_exactly start m);
     new_leaves = new_leaves;
     in_shape = λ w. reached_shaped M L w;
     no_nine_invoke = λ {s} w. no_nine_invoke M L s (reached_shaped M L w);

@@ -1,7 +1,7 @@
 -- Each number is given exactly under its condition.
 use Rattle.std.specs.Prelude.{ℕ, ◌≡◌, ◌↔◌, true, false}
 use Rattle.std.proofs.Math.Path.{refl}
-use Rattle.std.proofs.Common.{sym, ap, ◌∙◌, subst}
+use Rattle.std.proofs.Common.{sym, ap, ◌∙◌, subst, Option, Some, None, Result, Ok, Err}
 use borrow.Author.Tests.{lt-ltb, le-ltb}
 use Rattle.values.specs.Sizes.{threads, capacity}
 use Rattle.families.specs.Refusals.{start_check}
@@ -9,14 +9,6 @@ use Rattle.families.specs.RefusalsExactly.{start_exactly}
 use Rattle.families.specs.declared.Object.{Object}
 use Rattle.families.specs.declared.Op.{Op}
 use Rattle.families.specs.declared.Ret.{Ret}
-use Rattle.values.specs.declared.refusal.Check.{Check}
-use Rattle.values.specs.declared.refusal.Check.TheVariants.{Clear, Refused as CRefused}
-use Rattle.stepping.specs.declared.histories.Flying.{Flying}
-use Rattle.stepping.specs.declared.histories.Flying.TheVariants.{At, Nothing}
-use Rattle.stepping.specs.declared.recorded.Made.{Made}
-use Rattle.stepping.specs.declared.recorded.Made.TheVariants.{New, Refused as MRefused}
-use Rattle.stepping.specs.declared.recorded.Recorded.{Recorded}
-use Rattle.stepping.specs.declared.recorded.Recorded.TheVariants.{Taken, Refused}
 use Rattle.stepping.specs.declared.recorded.Reason.TheVariants.{AlreadyInvalid, NoSuchThread, NotOwn, InFlight, NothingInFlight, Full, OutOfShape}
 use Rattle.stepping.specs.declared.step.Step.{Step}
 use Rattle.stepping.specs.Record.{held, find_flying}
@@ -44,14 +36,16 @@ use Rattle.recording_meaning.specs.Cases.{
 use Rattle.recording_meaning.specs.Models.{Model}
 use Rattle.recording_meaning.specs.Lawful.{Lawful}
 use Rattle.recording_meaning.specs.Numbers.{Busy, op_said, ret_said, Left, Fine, EventWhen, InvokeLeft, InvokeWhen, ReturnLeft, ReturnWhen, MadeWhen}
+use Rattle.values.specs.declared.refusal.Refusal.{Refusal}
+use Rattle.stepping.specs.declared.recorded.Reason.{Reason}
 
 module _ (M : Model) (L : Lawful M) (s : M.Tester) (t : ℕ) where
-  flight : {said : Check} → Fine M s t said → Busy M s t ≡ flies t (held (M.history s))
+  flight : {said : Result Unit Refusal} → Fine M s t said → Busy M s t ≡ flies t (held (M.history s))
   flight a = flying_row (M.needs s) (M.history s) t a.known
 
   -- the number that is given has its condition
 
-  event_gives : (left : Left) {said : Check} {y x : Step} → Judged (M.shaped s) (M.history s) t said y x
+  event_gives : (left : Left) {said : Result Unit Refusal} {y x : Step} → Judged (M.shaped s) (M.history s) t said y x
       → (Fine M s t said → EventWhen M s t said left y.recorded) → EventWhen M s t said left x.recorded
   event_gives left (out_of_shape e) run = e
   event_gives left (barred e (invalid v)) run = (e, v)
@@ -77,60 +71,60 @@ module _ (M : Model) (L : Lawful M) (s : M.Tester) (t : ℕ) where
   -- and where the condition holds, the number is given
 
   -- what comes of an event by what its thread has in flight: the number, if it is admitted
-  gives_by : {said : Check} {p : Flying} {r : Recorded} (comes : Flying → Step) → Fine M s t said → find_flying t (M.history s) ≡ p → (comes p).recorded ≡ r
+  gives_by : {said : Result Unit Refusal} {p : Option ℕ} {r : Result Unit Reason} (comes : Option ℕ → Step) → Fine M s t said → find_flying t (M.history s) ≡ p → (comes p).recorded ≡ r
       → (admitted (M.shaped s) (M.history s) t said (comes (find_flying t (M.history s)))).recorded ≡ r
   gives_by comes a e z = rw (e, a.in_shape, a.valid, lt-ltb t threads a.known, a.own) z
 
-  busy_gives : {said : Check} {r : Recorded} (comes : Flying → Step) → Fine M s t said → Busy M s t ≡ true → ((i : ℕ) → (comes (At i)).recorded ≡ r)
+  busy_gives : {said : Result Unit Refusal} {r : Result Unit Reason} (comes : Option ℕ → Step) → Fine M s t said → Busy M s t ≡ true → ((i : ℕ) → (comes (Some i)).recorded ≡ r)
       → (admitted (M.shaped s) (M.history s) t said (comes (find_flying t (M.history s)))).recorded ≡ r
   busy_gives comes a e z = let w = flying_at t (M.history s) (sym (flight a) ∙ e) in gives_by comes a w.1 (z w.0)
 
-  idle_gives : {said : Check} {r : Recorded} (comes : Flying → Step) → Fine M s t said → Busy M s t ≡ false → (comes Nothing).recorded ≡ r
+  idle_gives : {said : Result Unit Refusal} {r : Result Unit Reason} (comes : Option ℕ → Step) → Fine M s t said → Busy M s t ≡ false → (comes None).recorded ≡ r
       → (admitted (M.shaped s) (M.history s) t said (comes (find_flying t (M.history s)))).recorded ≡ r
   idle_gives comes a e z = gives_by comes a (flying_none t (M.history s) (sym (flight a) ∙ e)) z
 
-  invoke_given : (op : Op) (r : Recorded) → InvokeWhen M s t op r → (invoke_of (M.shaped s) (M.history s) t op).recorded ≡ r
+  invoke_given : (op : Op) (r : Result Unit Reason) → InvokeWhen M s t op r → (invoke_of (M.shaped s) (M.history s) t op).recorded ≡ r
   unfolding invoke_of
-  invoke_given op (Refused OutOfShape) e = rw e
-  invoke_given op (Refused AlreadyInvalid) w = rw (w.0, w.1)
-  invoke_given op (Refused NoSuchThread) w = rw (w.0, w.1, le-ltb t threads w.2)
-  invoke_given op (Refused (NotOwn r)) w = rw (w.0, w.1, lt-ltb t threads w.2, w.3)
-  invoke_given op (Refused InFlight) w = busy_gives (λ p. invoke_by p (M.history s) t op) w.0 w.1 (λ i. refl)
-  invoke_given op (Refused Full) w = idle_gives (λ p. invoke_by p (M.history s) t op) w.0 w.1.0 (rw (le-ltb (M.history s).count capacity w.1.1))
-  invoke_given op Taken w = idle_gives (λ p. invoke_by p (M.history s) t op) w.0 w.1.0 (rw (lt-ltb (M.history s).count capacity w.1.1))
-  invoke_given op (Refused NothingInFlight) w = absurd w.1
+  invoke_given op (Err OutOfShape) e = rw e
+  invoke_given op (Err AlreadyInvalid) w = rw (w.0, w.1)
+  invoke_given op (Err NoSuchThread) w = rw (w.0, w.1, le-ltb t threads w.2)
+  invoke_given op (Err (NotOwn r)) w = rw (w.0, w.1, lt-ltb t threads w.2, w.3)
+  invoke_given op (Err InFlight) w = busy_gives (λ p. invoke_by p (M.history s) t op) w.0 w.1 (λ i. refl)
+  invoke_given op (Err Full) w = idle_gives (λ p. invoke_by p (M.history s) t op) w.0 w.1.0 (rw (le-ltb (M.history s).count capacity w.1.1))
+  invoke_given op (Ok tt) w = idle_gives (λ p. invoke_by p (M.history s) t op) w.0 w.1.0 (rw (lt-ltb (M.history s).count capacity w.1.1))
+  invoke_given op (Err NothingInFlight) w = absurd w.1
 
-  return_given : (ret : Ret) (r : Recorded) → ReturnWhen M s t ret r → (return_of (M.shaped s) (M.history s) t ret).recorded ≡ r
+  return_given : (ret : Ret) (r : Result Unit Reason) → ReturnWhen M s t ret r → (return_of (M.shaped s) (M.history s) t ret).recorded ≡ r
   unfolding return_of
-  return_given ret (Refused OutOfShape) e = rw e
-  return_given ret (Refused AlreadyInvalid) w = rw (w.0, w.1)
-  return_given ret (Refused NoSuchThread) w = rw (w.0, w.1, le-ltb t threads w.2)
-  return_given ret (Refused (NotOwn r)) w = rw (w.0, w.1, lt-ltb t threads w.2, w.3)
-  return_given ret (Refused NothingInFlight) w = idle_gives (λ p. return_by p (M.history s) t ret) w.0 w.1 refl
-  return_given ret Taken w = busy_gives (λ p. return_by p (M.history s) t ret) w.0 w.1 (λ i. refl)
-  return_given ret (Refused InFlight) w = absurd w.1
-  return_given ret (Refused Full) w = absurd w.1
+  return_given ret (Err OutOfShape) e = rw e
+  return_given ret (Err AlreadyInvalid) w = rw (w.0, w.1)
+  return_given ret (Err NoSuchThread) w = rw (w.0, w.1, le-ltb t threads w.2)
+  return_given ret (Err (NotOwn r)) w = rw (w.0, w.1, lt-ltb t threads w.2, w.3)
+  return_given ret (Err NothingInFlight) w = idle_gives (λ p. return_by p (M.history s) t ret) w.0 w.1 refl
+  return_given ret (Ok tt) w = busy_gives (λ p. return_by p (M.history s) t ret) w.0 w.1 (λ i. refl)
+  return_given ret (Err InFlight) w = absurd w.1
+  return_given ret (Err Full) w = absurd w.1
 
   -- Each number exactly under its condition.
 
-  pub invoke_exactly : (op : Op) (r : Recorded) → ((M.on_invoke s t op).0 ≡ r) ↔ InvokeWhen M s t op r
+  pub invoke_exactly : (op : Op) (r : Result Unit Reason) → ((M.on_invoke s t op).0 ≡ r) ↔ InvokeWhen M s t op r
   invoke_exactly op r =
-      let e = ap (λ (a : Recorded × M.Tester). a.0) (L.invokes s t op) in
+      let e = ap (λ (a : Result Unit Reason × M.Tester). a.0) (L.invokes s t op) in
       (λ z. subst (InvokeWhen M s t op) (sym e ∙ z) (invoke_gives op), λ w. e ∙ invoke_given op r w)
 
-  pub return_exactly : (ret : Ret) (r : Recorded) → ((M.on_return s t ret).0 ≡ r) ↔ ReturnWhen M s t ret r
+  pub return_exactly : (ret : Ret) (r : Result Unit Reason) → ((M.on_return s t ret).0 ≡ r) ↔ ReturnWhen M s t ret r
   return_exactly ret r =
-      let e = ap (λ (a : Recorded × M.Tester). a.0) (L.returns s t ret) in
+      let e = ap (λ (a : Result Unit Reason × M.Tester). a.0) (L.returns s t ret) in
       (λ z. subst (ReturnWhen M s t ret) (sym e ∙ z) (return_gives ret), λ w. e ∙ return_given ret r w)
 
-pub made_exactly : (start : Object) (m : Made) → ((begun_of start).made ≡ m) ↔ MadeWhen start m
+pub made_exactly : (start : Object) (m : Result Unit Refusal) → ((begun_of start).made ≡ m) ↔ MadeWhen start m
 unfolding begun_of
 made_exactly start m = (λ e. subst (MadeWhen start) e (gives (start_check start.kind) refl), given m)
   where
-    gives : (c : Check) → start_check start.kind ≡ c → MadeWhen start (begun_by c start).made
-    gives Clear e = (start_exactly start.kind Clear).0 e
-    gives (CRefused r) e = (start_exactly start.kind (CRefused r)).0 e
+    gives : (c : Result Unit Refusal) → start_check start.kind ≡ c → MadeWhen start (begun_by c start).made
+    gives (Ok tt) e = (start_exactly start.kind (Ok tt)).0 e
+    gives (Err r) e = (start_exactly start.kind (Err r)).0 e
 
-    given : (m : Made) → MadeWhen start m → (begun_by (start_check start.kind) start).made ≡ m
-    given New w = rw ((start_exactly start.kind Clear).1 w)
-    given (MRefused r) w = rw ((start_exactly start.kind (CRefused r)).1 w)
+    given : (m : Result Unit Refusal) → MadeWhen start m → (begun_by (start_check start.kind) start).made ≡ m
+    given (Ok tt) w = rw ((start_exactly start.kind (Ok tt)).1 w)
+    given (Err r) w = rw ((start_exactly start.kind (Err r)).1 w)

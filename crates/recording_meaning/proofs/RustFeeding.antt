@@ -1,6 +1,6 @@
 -- Recording is the Rust's along any inputs that it knows.
-use Rattle.std.specs.Prelude.{ℕ, ◌+◌, ◌≡◌, refl, true, false, [], ◌∷◌, map, length}
-use Rattle.std.proofs.Common.{sym, ◌∙◌, subst, arith}
+use Rattle.std.specs.Prelude.{ℕ, ◌+◌, ◌≡◌, refl, true, false, [], ◌∷◌, map, length, is_ok}
+use Rattle.std.proofs.Common.{sym, ◌∙◌, subst, arith, Result, Ok, Err}
 use Rattle.std.proofs.Math.Path.{ap}
 use Rattle.history.specs.Lists.{not_both, and_left, and_right}
 use Rattle.values.specs.Value.{pick}
@@ -9,18 +9,13 @@ use Rattle.families.specs.declared.Kind.{Kind}
 use Rattle.families.specs.declared.Object.{Object}
 use Rattle.families.specs.declared.Op.{Op}
 use Rattle.families.specs.declared.Ret.{Ret}
-use Rattle.values.specs.declared.refusal.Check.{Check}
 use Rattle.stepping.specs.declared.histories.History.{History}
-use Rattle.stepping.specs.declared.recorded.Made.TheVariants.{New}
-use Rattle.stepping.specs.declared.recorded.Recorded.{Recorded}
-use Rattle.stepping.specs.declared.recorded.Recorded.TheVariants.{Refused}
 use Rattle.stepping.specs.declared.recorded.Reason.{Reason}
 use Rattle.stepping.specs.declared.recorded.Reason.TheVariants.{AlreadyInvalid}
-use Rattle.recording_meaning.specs.Rust.{Answered, Err, new, with_entry, len}
+use Rattle.recording_meaning.specs.Rust.{Answered, Err as RustErr, new, with_entry, len}
 use Rattle.recording_meaning.specs.RustMaps.{tabled, flight_entry}
 use Rattle.recording_meaning.proofs.RustSteps.{len_operations as maps_len, stray_lengths}
 use Rattle.stepping.specs.Shape.{kind_of}
-use Rattle.stepping.specs.EventSteps.{is_taken}
 use Rattle.recording_meaning.specs.Rowing.{rows_many}
 use Rattle.recording_meaning.specs.Shaping.{rows_shaped}
 use Rattle.recording_meaning.specs.Cases.{Barred, invalid, stranger, foreign}
@@ -69,51 +64,51 @@ use Rattle.recording_meaning.specs.RustReading.{
 use Rattle.recording_meaning.proofs.Fitting.{all_fit}
 use Rattle.recording_meaning.specs.RustAgrees.{TakesAlong}
 use Rattle.recording_meaning.proofs.RustAgrees.{sequential_takes, linearizability_takes, same_maps, invoke_as_rust, return_as_rust, invret_as_rust}
+use Rattle.values.specs.declared.refusal.Refusal.{Refusal}
 
 module _ (M : Model) (R : InRust M) where
   -- The Rust's answer a agrees with number r and the tester after it.
-  record Agrees (r : Recorded) (next : M.Tester) (a : Answered Op Ret Object R.keeps) : Type 0 where
+  record Agrees (r : Result Unit Reason) (next : M.Tester) (a : Answered Op Ret Object R.keeps) : Type 0 where
     result : a.result ≡ result_of r
     stands : StandsFor M R next a.tester
 
 module _ (M : Model) (L : Lawful M) (R : InRust M) (along : TakesAlong M R) where
   -- once validity is off
 
-  rust_off : (T : RustTester M R) (v : Input) → T.is_valid_history ≡ false → rust_give M R T v ≡ answered M R Err T
+  rust_off : (T : RustTester M R) (v : Input) → T.is_valid_history ≡ false → rust_give M R T v ≡ answered M R RustErr T
   rust_off T (invoke t op) e = rw e
   rust_off T (return t ret) e = rw e
   rust_off T (invret t op ret) e = rw e
 
-  off_barred : {h : History} {t : ℕ} {said : Check} {r : Reason} → h.valid ≡ false → Barred h t said r → Refused r ≡ Refused AlreadyInvalid
+  off_barred : {h : History} {t : ℕ} {said : Result Unit Refusal} {r : Reason} → h.valid ≡ false → Barred h t said r → ◌≡◌ {A = Result Unit Reason} (Err r) (Err AlreadyInvalid)
   off_barred e (invalid v) = refl
   off_barred e (stranger v k) = not_both v e
   off_barred e (foreign v k f) = not_both v e
 
-  off_invoke : {s next : M.Tester} {t : ℕ} {op : Op} {r : Recorded} → (M.history s).valid ≡ false → InvokeTurn M s t op r next
-      → (r ≡ Refused AlreadyInvalid) × (next ≡ s)
+  off_invoke : {s next : M.Tester} {t : ℕ} {op : Op} {r : Result Unit Reason} → (M.history s).valid ≡ false → InvokeTurn M s t op r next
+      → (r ≡ Err AlreadyInvalid) × (next ≡ s)
   off_invoke e (invoke_refused w) = (off_barred e w, refl)
   off_invoke e (second a b h w) = not_both a.valid e
   off_invoke e (no_room a b k) = not_both a.valid e
   off_invoke e (invoke_taken a b k h w) = not_both a.valid e
 
-  off_return : {s next : M.Tester} {t : ℕ} {ret : Ret} {r : Recorded} → (M.history s).valid ≡ false → ReturnTurn M s t ret r next
-      → (r ≡ Refused AlreadyInvalid) × (next ≡ s)
+  off_return : {s next : M.Tester} {t : ℕ} {ret : Ret} {r : Result Unit Reason} → (M.history s).valid ≡ false → ReturnTurn M s t ret r next
+      → (r ≡ Err AlreadyInvalid) × (next ≡ s)
   off_return e (return_refused w) = (off_barred e w, refl)
   off_return e (stray a b h w) = not_both a.valid e
   off_return e (return_taken i a b h w) = not_both a.valid e
 
-  off_give : (s : M.Tester) → Good M L s → (v : Input) → (M.history s).valid ≡ false → ((give M s v).0 ≡ Refused AlreadyInvalid) × ((give M s v).1 ≡ s)
-  unfolding is_taken
+  off_give : (s : M.Tester) → Good M L s → (v : Input) → (M.history s).valid ≡ false → ((give M s v).0 ≡ Err AlreadyInvalid) × ((give M s v).1 ≡ s)
   off_give s g (invoke t op) e = off_invoke e (invoke_turn M L s g t op)
   off_give s g (return t ret) e = off_return e (return_turn M L s g t ret)
   off_give s g (invret t op ret) e =
       let o = off_invoke e (invoke_turn M L s g t op) in
       let w : M.on_invret s t op ret ≡ M.on_invoke s t op
-      = L.invrets s t op ret ∙ ap (λ (r : Recorded). pick (is_taken r) (M.on_return (M.on_invoke s t op).1 t ret) (M.on_invoke s t op)) o.0 in
-      (ap (λ (a : Recorded × M.Tester). a.0) w ∙ o.0, ap (λ (a : Recorded × M.Tester). a.1) w ∙ o.1)
+      = L.invrets s t op ret ∙ ap (λ (r : Result Unit Reason). pick (is_ok r) (M.on_return (M.on_invoke s t op).1 t ret) (M.on_invoke s t op)) o.0 in
+      (ap (λ (a : Result Unit Reason × M.Tester). a.0) w ∙ o.0, ap (λ (a : Result Unit Reason × M.Tester). a.1) w ∙ o.1)
 
   -- what a return leaves stands for the tester after it
-  left_stands : {s next : M.Tester} {t : ℕ} {ret : Ret} {r : Recorded} → ReturnTurn M s t ret r next → StandsFor M R next (left_by M R r (in_rust M R next) t)
+  left_stands : {s next : M.Tester} {t : ℕ} {ret : Ret} {r : Result Unit Reason} → ReturnTurn M s t ret r next → StandsFor M R next (left_by M R r (in_rust M R next) t)
   left_stands (return_refused (invalid v)) = exactly
   left_stands (return_refused (stranger v k)) = exactly
   left_stands (return_refused (foreign v k f)) = exactly
@@ -165,14 +160,14 @@ module _ (M : Model) (L : Lawful M) (R : InRust M) (along : TakesAlong M R) wher
       (rw (a.result, r.0), r.1)
 
   -- the start that was given is the one that the tester is made with
-  new_stands : (start : Object) → M.made start ≡ New → StandsFor M R (M.new start) (rust_new M R start)
+  new_stands : (start : Object) → M.made start ≡ Ok tt → StandsFor M R (M.new start) (rust_new M R start)
   new_stands start e =
-      let w = (meaning M L).new_leaves start New e in
+      let w = (meaning M L).new_leaves start (Ok tt) e in
       subst (StandsFor M R (M.new start))
       (same_maps M R (M.new start) (M.new start) refl w.no_rows w.valid ∙ ap (new Op Ret Object R.keeps) w.starts) exactly
 
   -- From fresh, for all inputs that draw 0, 1, 4 and 5.
-  same_as_rust : (start : Object) → M.made start ≡ New → (l : Inputs) → all_comparable (drawn M (M.new start) l) ≡ true → SameAsRust M R start l
+  same_as_rust : (start : Object) → M.made start ≡ Ok tt → (l : Inputs) → all_comparable (drawn M (M.new start) l) ≡ true → SameAsRust M R start l
   same_as_rust start e l c =
       let g = good_new M L start in
       let w = run_agrees l (M.new start) g (new_stands start e) c in
@@ -184,8 +179,8 @@ module _ (M : Model) (L : Lawful M) (R : InRust M) (along : TakesAlong M R) wher
   valid_exactly s v (strayed t l b) = not_both v b
 
   -- the kind of the start that was given
-  new_kind : (start : Object) → M.made start ≡ New → kind_of (M.history (M.new start)) ≡ start.kind
-  new_kind start e = ap (λ (o : Object). o.kind) ((meaning M L).new_leaves start New e).starts
+  new_kind : (start : Object) → M.made start ≡ Ok tt → kind_of (M.history (M.new start)) ≡ start.kind
+  new_kind start e = ap (λ (o : Object). o.kind) ((meaning M L).new_leaves start (Ok tt) e).starts
 
   pub as_rust : AsRust M R
   as_rust = record {

@@ -1,8 +1,8 @@
 -- Fed from fresh, whatever the inputs: the rows are those of the recorded events, validity is off exactly if some input drew 4 or 5, and len counts
 -- the invocations recorded.
-use Rattle.std.specs.Prelude.{ℕ, ◌+◌, ◌<◌, ◌≡◌, ◌↔◌, Bool, true, false, cond, ◌||◌, ◌&&◌, not, [], ◌∷◌, length, replicate}
+use Rattle.std.specs.Prelude.{ℕ, ◌+◌, ◌<◌, ◌≡◌, ◌↔◌, Bool, true, false, cond, ◌||◌, ◌&&◌, not, [], ◌∷◌, length, replicate, is_ok}
 use Rattle.std.proofs.Math.Path.{refl, ap}
-use Rattle.std.proofs.Common.{sym, ◌∙◌, subst, arith}
+use Rattle.std.proofs.Common.{sym, ◌∙◌, subst, arith, Result, Ok, Err}
 use Rattle.history.specs.Lists.{not_both}
 use Rattle.history.specs.Events.{Events, invoked, returned}
 use Rattle.history.specs.Rows.{Rows, operations}
@@ -13,13 +13,10 @@ use Rattle.families.specs.Families.{families}
 use Rattle.families.specs.declared.Object.{Object}
 use Rattle.families.specs.declared.Op.{Op}
 use Rattle.families.specs.declared.Ret.{Ret}
-use Rattle.values.specs.declared.refusal.Check.{Check}
 use Rattle.stepping.specs.declared.histories.History.{History}
-use Rattle.stepping.specs.declared.recorded.Recorded.{Recorded}
-use Rattle.stepping.specs.declared.recorded.Recorded.TheVariants.{Taken, Refused}
 use Rattle.stepping.specs.declared.recorded.Reason.{Reason}
 use Rattle.stepping.specs.Record.{fresh}
-use Rattle.stepping.specs.EventSteps.{is_taken, breaks, size_of}
+use Rattle.stepping.specs.EventSteps.{breaks, size_of}
 use Rattle.recording_meaning.specs.Reading.{rows_of}
 use Rattle.recording_meaning.specs.Shaping.{rows_count}
 use Rattle.recording_meaning.specs.Beginning.{start_of, begun_is, fresh_rows}
@@ -46,6 +43,7 @@ use Rattle.recording_meaning.specs.Reaching.{good_new, good_invoke, good_return,
 use Rattle.recording_meaning.specs.Inputs.{Input, invoke, return, invret, Inputs, broke, broken, invocations_in, give, feed, drawn, takes, taken}
 use Rattle.recording_meaning.specs.InputLaws.{invocations_both}
 use Rattle.recording_meaning.specs.TesterFeeding.{Step}
+use Rattle.values.specs.declared.refusal.Refusal.{Refusal}
 
 module _ (M : Model) (L : Lawful M) where
   still : (a : Bool) → a ≡ a && not false
@@ -62,15 +60,15 @@ module _ (M : Model) (L : Lawful M) where
     start = o;
   }
 
-  step_refused : {s : M.Tester} {t : ℕ} {said : Check} {r : Reason} → Barred (M.history s) t said r → Step M L s [] (breaks r) s
+  step_refused : {s : M.Tester} {t : ℕ} {said : Result Unit Refusal} {r : Reason} → Barred (M.history s) t said r → Step M L s [] (breaks r) s
   step_refused {s} w = stays refl (rw (barred_keeps w) (still (M.history s).valid)) refl refl
 
   in_rows : (s : M.Tester) (t : ℕ) → t < threads → t < length (tester_rows M s)
   in_rows s t l = rw (rows_many (M.needs s) (M.history s)) l
 
-  step_invoke : {s next : M.Tester} {t : ℕ} {op : Op} {r : Recorded} → InvokeTurn M s t op r next
-      → Step M L s (cond (is_taken r) (invoked t op ∷ []) []) (broke r) next
-  unfolding is_taken breaks
+  step_invoke : {s next : M.Tester} {t : ℕ} {op : Op} {r : Result Unit Reason} → InvokeTurn M s t op r next
+      → Step M L s (cond (is_ok r) (invoked t op ∷ []) []) (broke r) next
+  unfolding breaks
   step_invoke (invoke_refused w) = step_refused w
   step_invoke (second a b h w) =
       stays w (ap (λ (x : History). x.valid) h ∙ rw a.valid) (ap (λ (x : History). x.count) h) (ap (λ (x : History). x.start) h)
@@ -82,9 +80,9 @@ module _ (M : Model) (L : Lawful M) where
     start = ap (λ (x : History). x.start) h;
   }
 
-  step_return : {s next : M.Tester} {t : ℕ} {ret : Ret} {r : Recorded} → ReturnTurn M s t ret r next
-      → Step M L s (cond (is_taken r) (returned t ret ∷ []) []) (broke r) next
-  unfolding is_taken breaks
+  step_return : {s next : M.Tester} {t : ℕ} {ret : Ret} {r : Result Unit Reason} → ReturnTurn M s t ret r next
+      → Step M L s (cond (is_ok r) (returned t ret ∷ []) []) (broke r) next
+  unfolding breaks
   step_return (return_refused w) = step_refused w
   step_return (stray a b h w) =
       stays w (ap (λ (x : History). x.valid) h ∙ rw a.valid) (ap (λ (x : History). x.count) h) (ap (λ (x : History). x.start) h)
@@ -105,26 +103,25 @@ module _ (M : Model) (L : Lawful M) where
     start = b.start ∙ a.start;
   }
 
-  taken_keeps : (r : Recorded) → is_taken r ≡ true → broke r ≡ false
-  unfolding is_taken
-  taken_keeps Taken e = refl
-  taken_keeps (Refused r) e = not_both e refl
+  taken_keeps : (r : Result Unit Reason) → is_ok r ≡ true → broke r ≡ false
+  taken_keeps (Ok tt) e = refl
+  taken_keeps (Err r) e = not_both e refl
 
   module _ (s : M.Tester) (g : Good M L s) (t : ℕ) (op : Op) (ret : Ret) where
     step_invret : Step M L s (takes M s (invret t op ret)) (broke (M.on_invret s t op ret).0) (M.on_invret s t op ret).1
     step_invret =
         subst
-        (λ (a : Recorded × M.Tester). Step M L s (cond (is_taken first.0) (invoked t op ∷ cond (is_taken a.0) (returned t ret ∷ []) []) []) (broke a.0) a.1)
-        (sym (L.invrets s t op ret)) (go (is_taken first.0) refl)
+        (λ (a : Result Unit Reason × M.Tester). Step M L s (cond (is_ok first.0) (invoked t op ∷ cond (is_ok a.0) (returned t ret ∷ []) []) []) (broke a.0) a.1)
+        (sym (L.invrets s t op ret)) (go (is_ok first.0) refl)
       where
-        first : Recorded × M.Tester
+        first : Result Unit Reason × M.Tester
         first = M.on_invoke s t op
 
-        begin : Step M L s (cond (is_taken first.0) (invoked t op ∷ []) []) (broke first.0) first.1
+        begin : Step M L s (cond (is_ok first.0) (invoked t op ∷ []) []) (broke first.0) first.1
         begin = step_invoke (invoke_turn M L s g t op)
 
-        go : (b : Bool) → is_taken first.0 ≡ b → (let a = pick b (M.on_return first.1 t ret) first in
-            Step M L s (cond b (invoked t op ∷ cond (is_taken a.0) (returned t ret ∷ []) []) []) (broke a.0) a.1)
+        go : (b : Bool) → is_ok first.0 ≡ b → (let a = pick b (M.on_return first.1 t ret) first in
+            Step M L s (cond b (invoked t op ∷ cond (is_ok a.0) (returned t ret ∷ []) []) []) (broke a.0) a.1)
         go true e =
             step_both (rw (e, taken_keeps first.0 e) at begin) (step_return (return_turn M L first.1 (good_invoke M L s g t op) t ret))
         go false e = rw e at begin

@@ -1,7 +1,7 @@
 -- Fed the same inputs, the two testers draw the same numbers and record the same events, and the sequential tester's rows are the linearizability
 -- tester's without their notes.
-use Rattle.std.specs.Prelude.{ℕ, ◌≡◌, refl, Bool, true, false, [], ◌∷◌}
-use Rattle.std.proofs.Common.{sym, ap, ◌∙◌, subst}
+use Rattle.std.specs.Prelude.{ℕ, ◌≡◌, refl, Bool, true, false, [], ◌∷◌, is_ok}
+use Rattle.std.proofs.Common.{sym, ap, ◌∙◌, subst, Result}
 use Rattle.history.specs.Events.{Events}
 use Rattle.history.specs.Recorder.{notes, rows_no_notes, Fed}
 use Rattle.history.specs.Feeding.{fed_same}
@@ -13,9 +13,8 @@ use Rattle.families.specs.declared.Object.{Object}
 use Rattle.families.specs.declared.Op.{Op}
 use Rattle.families.specs.declared.Ret.{Ret}
 use Rattle.stepping.specs.declared.histories.History.{History}
-use Rattle.stepping.specs.declared.recorded.Recorded.{Recorded}
 use Rattle.stepping.specs.declared.step.Step.{Step}
-use Rattle.stepping.specs.EventSteps.{is_taken, invoke_of, return_of}
+use Rattle.stepping.specs.EventSteps.{invoke_of, return_of}
 use Rattle.recording_meaning.specs.Models.{Model, tester_rows, sequential_model, linearizability_model}
 use Rattle.recording_meaning.specs.Inputs.{Input, invoke, return, invret, Inputs, give, feed, drawn, takes, taken}
 use Rattle.recording_meaning.specs.Lawful.{Lawful, sequential_lawful, linearizability_lawful}
@@ -23,36 +22,37 @@ use Rattle.recording_meaning.specs.EventTurns.{Good, good_shaped}
 use Rattle.recording_meaning.specs.Reaching.{good_new, good_invoke}
 use Rattle.recording_meaning.proofs.TesterFeeding.{good_give, fed_rows}
 use Rattle.recording_meaning.specs.TestersAlike.{step_of, Alike}
+use Rattle.stepping.specs.declared.recorded.Reason.{Reason}
 
 module _ (M : Model) (L : Lawful M) where
   -- A call comes to what the step says.
-  abbrev Comes : Recorded × M.Tester → Step → Type 0
+  abbrev Comes : Result Unit Reason × M.Tester → Step → Type 0
   Comes a x = (a.0 ≡ x.recorded) × (M.history a.1 ≡ x.history)
 
   comes_invoke : (s : M.Tester) → Good M L s → (t : ℕ) (op : Op) → Comes (M.on_invoke s t op) (invoke_of true (M.history s) t op)
   comes_invoke s g t op =
       let e = L.invokes s t op ∙ ap (λ (b : Bool). ((invoke_of b (M.history s) t op).recorded, L.after_invoke s t (invoke_of b (M.history s) t op)))
       (good_shaped M L s g) in
-      (ap (λ (a : Recorded × M.Tester). a.0) e, ap (λ (a : Recorded × M.Tester). M.history a.1) e ∙ L.invoke_history s t _)
+      (ap (λ (a : Result Unit Reason × M.Tester). a.0) e, ap (λ (a : Result Unit Reason × M.Tester). M.history a.1) e ∙ L.invoke_history s t _)
 
   comes_return : (s : M.Tester) → Good M L s → (t : ℕ) (ret : Ret) → Comes (M.on_return s t ret) (return_of true (M.history s) t ret)
   comes_return s g t ret =
       let e = L.returns s t ret ∙ ap (λ (b : Bool). ((return_of b (M.history s) t ret).recorded, L.after_return s (return_of b (M.history s) t ret)))
       (good_shaped M L s g) in
-      (ap (λ (a : Recorded × M.Tester). a.0) e, ap (λ (a : Recorded × M.Tester). M.history a.1) e ∙ L.return_history s _)
+      (ap (λ (a : Result Unit Reason × M.Tester). a.0) e, ap (λ (a : Result Unit Reason × M.Tester). M.history a.1) e ∙ L.return_history s _)
 
   pub given : (s : M.Tester) → Good M L s → (v : Input) → Comes (give M s v) (step_of (M.history s) v)
   given s g (invoke t op) = comes_invoke s g t op
   given s g (return t ret) = comes_return s g t ret
   given s g (invret t op ret) =
-      subst (λ (a : Recorded × M.Tester). Comes a (step_of (M.history s) (invret t op ret))) (sym (L.invrets s t op ret))
-      (subst (λ (r : Recorded). Comes (pick (is_taken (M.on_invoke s t op).0) second first) (pick (is_taken r) then begun)) (comes_invoke s g t op).0
-      (go (is_taken (M.on_invoke s t op).0)))
+      subst (λ (a : Result Unit Reason × M.Tester). Comes a (step_of (M.history s) (invret t op ret))) (sym (L.invrets s t op ret))
+      (subst (λ (r : Result Unit Reason). Comes (pick (is_ok (M.on_invoke s t op).0) second first) (pick (is_ok r) then begun)) (comes_invoke s g t op).0
+      (go (is_ok (M.on_invoke s t op).0)))
     where
-      first : Recorded × M.Tester
+      first : Result Unit Reason × M.Tester
       first = M.on_invoke s t op
 
-      second : Recorded × M.Tester
+      second : Result Unit Reason × M.Tester
       second = M.on_return first.1 t ret
 
       begun : Step

@@ -1,8 +1,8 @@
 -- Inputs whose events history's recorder can be fed, of the object's own and within the tester's room, are all recorded, and leave the rows that
 -- history says.
-use Rattle.std.specs.Prelude.{ℕ, ◌+◌, ◌<◌, ◌≤◌, ◌≡◌, true, false, [], ◌∷◌, ◌++◌, length}
+use Rattle.std.specs.Prelude.{ℕ, ◌+◌, ◌<◌, ◌≤◌, ◌≡◌, true, false, [], ◌∷◌, ◌++◌, length, is_ok}
 use Rattle.std.proofs.Math.Path.{refl, ap, subst}
-use Rattle.std.proofs.Common.{sym, ◌∙◌, arith}
+use Rattle.std.proofs.Common.{sym, ◌∙◌, arith, Result, Ok}
 use Rattle.history.specs.Events.{Events, invoked, returned}
 use Rattle.history.specs.Rows.{Rows, row}
 use Rattle.history.specs.Recorder.{flying, extend, close, new as put, Feeds, fed, invokes, gives_back, Fed}
@@ -14,10 +14,7 @@ use Rattle.families.specs.declared.Object.{Object}
 use Rattle.families.specs.declared.Op.{Op}
 use Rattle.families.specs.declared.Ret.{Ret}
 use Rattle.stepping.specs.declared.histories.History.{History}
-use Rattle.stepping.specs.declared.recorded.Recorded.{Recorded}
-use Rattle.stepping.specs.declared.recorded.Recorded.TheVariants.{Taken}
 use Rattle.stepping.specs.Shape.{kind_of}
-use Rattle.stepping.specs.EventSteps.{is_taken}
 use Rattle.recording_meaning.specs.Rowing.{rows_many}
 use Rattle.recording_meaning.specs.Numbers.{op_said, ret_said, Fine}
 use Rattle.recording_meaning.specs.Models.{Model, tester_rows}
@@ -42,6 +39,7 @@ use Rattle.recording_meaning.specs.Reaching.{good_new, good_invoke, good_return}
 use Rattle.recording_meaning.proofs.NumbersExactly.{invoke_exactly, return_exactly}
 use Rattle.recording_meaning.specs.Inputs.{Input, invoke, return, invret, Inputs, named, events_in, Own, invocations_in, give, takes, Wellfed}
 use Rattle.recording_meaning.proofs.TesterFeeding.{new_rows, new_valid, new_count}
+use Rattle.stepping.specs.declared.recorded.Reason.{Reason}
 
 module _ (M : Model) (L : Lawful M) where
   -- what stays true of the tester after an event that is taken
@@ -51,9 +49,8 @@ module _ (M : Model) (L : Lawful M) where
     count : (M.history next).count ≡ (M.history s).count + more
     reads : tester_rows M next ≡ rows
 
-  next_invoke : {s next : M.Tester} {t : ℕ} {op : Op} {r : Recorded} → r ≡ Taken → InvokeTurn M s t op r next
+  next_invoke : {s next : M.Tester} {t : ℕ} {op : Op} {r : Result Unit Reason} → r ≡ Ok tt → InvokeTurn M s t op r next
       → Next s next (extend families (tester_rows M s) t (put families M.keep (tester_rows M s) t op)) 1
-  unfolding is_taken
   next_invoke e (invoke_refused w) = not_taken e refl
   next_invoke e (second a b h w) = not_taken e refl
   next_invoke e (no_room a b c) = not_taken e refl
@@ -64,9 +61,8 @@ module _ (M : Model) (L : Lawful M) where
     reads = w;
   }
 
-  next_return : {s next : M.Tester} {t : ℕ} {ret : Ret} {r : Recorded} → r ≡ Taken → ReturnTurn M s t ret r next
+  next_return : {s next : M.Tester} {t : ℕ} {ret : Ret} {r : Result Unit Reason} → r ≡ Ok tt → ReturnTurn M s t ret r next
       → Next s next (close families (tester_rows M s) t ret) 0
-  unfolding is_taken
   next_return e (return_refused w) = not_taken e refl
   next_return e (stray a b h w) = not_taken e refl
   next_return e (return_taken i a b h w) = record {
@@ -99,7 +95,7 @@ module _ (M : Model) (L : Lawful M) where
   -- what is ready for an event takes it, and is ready for the next
 
   takes_invoke : {s : M.Tester} {t : ℕ} {op : Op} {H : Events families} {end : Rows families} → Ready s (invoked t op ∷ H) end
-      → ((M.on_invoke s t op).0 ≡ Taken) × Ready (M.on_invoke s t op).1 H end
+      → ((M.on_invoke s t op).0 ≡ Ok tt) × Ready (M.on_invoke s t op).1 H end
   takes_invoke {s} {t} {op} {H} {end} r =
       let f = feeds_invoke r.feeds in
       let a : Fine M s t (op_said M s op) = record {
@@ -108,7 +104,7 @@ module _ (M : Model) (L : Lawful M) where
         known = omega (arith, f.0, rows_many (M.needs s) (M.history s));
         own = r.own.0;
       } in
-      let e = (invoke_exactly M L s t op Taken).1 (a, (f.1, omega (arith, r.room))) in
+      let e = (invoke_exactly M L s t op (Ok tt)).1 (a, (f.1, omega (arith, r.room))) in
       let n = next_invoke e (invoke_turn M L s r.good t op) in (
         e,
         record {
@@ -121,7 +117,7 @@ module _ (M : Model) (L : Lawful M) where
       )
 
   takes_return : {s : M.Tester} {t : ℕ} {ret : Ret} {H : Events families} {end : Rows families} → Ready s (returned t ret ∷ H) end
-      → ((M.on_return s t ret).0 ≡ Taken) × Ready (M.on_return s t ret).1 H end
+      → ((M.on_return s t ret).0 ≡ Ok tt) × Ready (M.on_return s t ret).1 H end
   takes_return {s} {t} {ret} {H} {end} r =
       let f = feeds_return r.feeds in
       let a : Fine M s t (ret_said M s ret) = record {
@@ -130,7 +126,7 @@ module _ (M : Model) (L : Lawful M) where
         known = omega (arith, f.0, rows_many (M.needs s) (M.history s));
         own = r.own.0;
       } in
-      let e = (return_exactly M L s t ret Taken).1 (a, f.1) in
+      let e = (return_exactly M L s t ret (Ok tt)).1 (a, f.1) in
       let n = next_return e (return_turn M L s r.good t ret) in (
         e,
         record {
@@ -145,15 +141,14 @@ module _ (M : Model) (L : Lawful M) where
   -- and for an input
   takes_input : (v : Input) {s : M.Tester} {H : Events families} {end : Rows families} → Ready s (named v ++ H) end
       → (takes M s v ≡ named v) × Ready (give M s v).1 H end
-  unfolding is_taken
   takes_input (invoke t op) r = let a = takes_invoke r in (rw a.0, a.1)
   takes_input (return t ret) r = let a = takes_return r in (rw a.0, a.1)
   takes_input (invret t op ret) {s} {H} {end} r =
       let a = takes_invoke r in
       let b = takes_return a.1 in
       let e : M.on_invret s t op ret ≡ M.on_return (M.on_invoke s t op).1 t ret
-      = L.invrets s t op ret ∙ ap (λ (x : Recorded). pick (is_taken x) (M.on_return (M.on_invoke s t op).1 t ret) (M.on_invoke s t op)) a.0 in
-      (rw (a.0, e, b.0), subst (λ (x : Recorded × M.Tester). Ready x.1 H end) (sym e) b.1)
+      = L.invrets s t op ret ∙ ap (λ (x : Result Unit Reason). pick (is_ok x) (M.on_return (M.on_invoke s t op).1 t ret) (M.on_invoke s t op)) a.0 in
+      (rw (a.0, e, b.0), subst (λ (x : Result Unit Reason × M.Tester). Ready x.1 H end) (sym e) b.1)
 
   wellfed : (l : Inputs) {s : M.Tester} {end : Rows families} → Ready s (events_in l) end → Wellfed M s l end
   wellfed [] r = record { all_taken = refl; valid = r.valid; reads = feeds_end r.feeds }

@@ -1,5 +1,5 @@
 -- The tests of shape, where an operation comes to those held, and where one takes the place of another.
-use Rattle.std.specs.Prelude.{ℕ, ◌+◌, ◌≡◌, refl, Bool, true, false, ◌||◌, List, [], ◌∷◌, ◌++◌, eqb}
+use Rattle.std.specs.Prelude.{ℕ, ◌+◌, ◌≡◌, refl, Bool, true, false, ◌||◌, List, [], ◌∷◌, ◌++◌, eqb, Some, None}
 use Rattle.std.proofs.Common.{sym, ap, ◌∙◌, ne_eqb, arith}
 use Rattle.std.proofs.lemmas.Bool.{eqb-false}
 use Rattle.history.specs.Lists.{not_both}
@@ -7,7 +7,6 @@ use Rattle.values.specs.Value.{pick}
 use Rattle.families.specs.declared.Kind.{Kind}
 use Rattle.families.specs.declared.Op.{Op}
 use Rattle.families.specs.declared.Ret.{Ret}
-use Rattle.families.specs.declared.placing.Outcome.TheVariants.{Pending, Returned}
 use Rattle.stepping.specs.declared.histories.Operation.{Operation}
 use Rattle.stepping.specs.Record.{operation, is_pending, flying_by}
 use Rattle.stepping.specs.Shape.{done_by, count_done, operation_fits, operations_fit, none_of, flying_last}
@@ -96,7 +95,7 @@ last_exchange o p (x ∷ os) ps e n w =
 
 -- what has returned
 
-returned_by : (t u : ℕ) (op : Op) (ret : Ret) → done_by u (operation t op (Returned ret)) ≡ eqb t u
+returned_by : (t u : ℕ) (op : Op) (ret : Ret) → done_by u (operation t op (Some ret)) ≡ eqb t u
 unfolding done_by is_pending
 returned_by t u op ret = go (eqb t u)
   where
@@ -104,7 +103,7 @@ returned_by t u op ret = go (eqb t u)
     go true = refl
     go false = refl
 
-pending_by : (o : Operation) (u : ℕ) → o.outcome ≡ Pending → done_by u o ≡ false
+pending_by : (o : Operation) (u : ℕ) → o.outcome ≡ None → done_by u o ≡ false
 unfolding done_by is_pending
 pending_by o u e = rw e (go (eqb o.thread u))
   where
@@ -112,13 +111,13 @@ pending_by o u e = rw e (go (eqb o.thread u))
     go true = refl
     go false = refl
 
-pub done_new : (u : ℕ) (o : Operation) (os : List Operation) → o.outcome ≡ Pending → count_done u (os ++ (o ∷ [])) ≡ count_done u os
+pub done_new : (u : ℕ) (o : Operation) (os : List Operation) → o.outcome ≡ None → count_done u (os ++ (o ∷ [])) ≡ count_done u os
 unfolding count_done
 done_new u o os e = done_append u os (o ∷ []) ∙ rw (pending_by o u e) (omega arith)
 
-pub done_exchange : (t u : ℕ) (o : Operation) (ret : Ret) (os ps : List Operation) → o.outcome ≡ Pending
-    → count_done u (os ++ (operation t o.op (Returned ret) ∷ ps)) ≡ count_done u (os ++ (o ∷ ps)) + pick (eqb t u) 1 0
+pub done_exchange : (t u : ℕ) (o : Operation) (ret : Ret) (os ps : List Operation) → o.outcome ≡ None
+    → count_done u (os ++ (operation t o.op (Some ret) ∷ ps)) ≡ count_done u (os ++ (o ∷ ps)) + pick (eqb t u) 1 0
 unfolding count_done
 done_exchange t u o ret os ps e =
-    done_append u os (operation t o.op (Returned ret) ∷ ps)
+    done_append u os (operation t o.op (Some ret) ∷ ps)
     ∙ rw (done_append u os (o ∷ ps), returned_by t u o.op ret, pending_by o u e) (omega arith)

@@ -1,9 +1,8 @@
 -- Inputs and events put together.
-use Rattle.std.specs.Prelude.{◌+◌, ◌≡◌, refl, cond, [], ◌∷◌, ◌++◌}
+use Rattle.std.specs.Prelude.{◌+◌, ◌≡◌, refl, cond, [], ◌∷◌, ◌++◌, is_ok}
 use Rattle.std.proofs.Common.{ap, arith}
 use Rattle.history.specs.Events.{Event, Events, invoked, returned}
 use Rattle.families.specs.Families.{families}
-use Rattle.stepping.specs.EventSteps.{is_taken}
 use Rattle.recording_meaning.specs.Models.{Model}
 use Rattle.recording_meaning.specs.Inputs.{Inputs, as_input, as_inputs, invocations_in, give, takes}
 
@@ -17,6 +16,6 @@ as_both [] K = refl
 as_both (v ∷ H) K = ap (λ (l : Inputs). as_input v ∷ l) (as_both H K)
 
 -- What is recorded of an event is the event, or nothing.
-pub takes_event : (M : Model) (s : M.Tester) (v : Event families) → takes M s (as_input v) ≡ cond (is_taken (give M s (as_input v)).0) (v ∷ []) []
+pub takes_event : (M : Model) (s : M.Tester) (v : Event families) → takes M s (as_input v) ≡ cond (is_ok (give M s (as_input v)).0) (v ∷ []) []
 takes_event M s (invoked t op) = refl
 takes_event M s (returned t ret) = refl

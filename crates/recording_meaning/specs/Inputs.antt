@@ -1,6 +1,6 @@
 -- Feeding a tester: any inputs, one after the other, and what of them is recorded. An input is any of the three calls, with any thread number and any
 -- operation or return, whether it fits or not.
-use Rattle.std.specs.Prelude.{ℕ, suc, ◌≤◌, ◌≡◌, Bool, true, false, cond, ◌||◌, List, [], ◌∷◌, ◌++◌}
+use Rattle.std.specs.Prelude.{ℕ, suc, ◌≤◌, ◌≡◌, Bool, true, false, cond, ◌||◌, List, [], ◌∷◌, ◌++◌, Result, Ok, Err, is_ok}
 use Rattle.history.specs.Events.{Event, Events, invoked, returned, ThreadsBelow}
 use Rattle.history.specs.Rows.{Rows}
 use Rattle.values.specs.Sizes.{threads, capacity}
@@ -9,11 +9,9 @@ use Rattle.families.specs.Families.{families}
 use Rattle.families.specs.declared.Kind.{Kind}
 use Rattle.families.specs.declared.Op.{Op}
 use Rattle.families.specs.declared.Ret.{Ret}
-use Rattle.values.specs.declared.refusal.Check.TheVariants.{Clear}
-use Rattle.stepping.specs.declared.recorded.Recorded.{Recorded}
-use Rattle.stepping.specs.declared.recorded.Recorded.TheVariants.{Taken, Refused}
-use Rattle.stepping.specs.EventSteps.{is_taken, breaks}
+use Rattle.stepping.specs.EventSteps.{breaks}
 use Rattle.recording_meaning.specs.Models.{Model, tester_rows}
+use Rattle.stepping.specs.declared.recorded.Reason.{Reason}
 
 -- A call of on_invoke, of on_return, or of on_invret.
 pub data Input : Type 0 where
@@ -46,12 +44,12 @@ as_inputs [] = []
 as_inputs (v ∷ H) = as_input v ∷ as_inputs H
 
 -- 4 or 5
-abbrev pub broke : Recorded → Bool
-broke Taken = false
-broke (Refused r) = breaks r
+abbrev pub broke : Result Unit Reason → Bool
+broke (Ok tt) = false
+broke (Err r) = breaks r
 
 -- One of them is 4 or 5.
-abbrev pub broken : List Recorded → Bool
+abbrev pub broken : List (Result Unit Reason) → Bool
 broken [] = false
 broken (r ∷ l) = broke r || broken l
 
@@ -64,8 +62,8 @@ invocations_in (returned t ret ∷ H) = invocations_in H
 -- Every event is one that an object of kind k has.
 abbrev pub Own : Kind → Events families → Type 0
 Own k [] = Unit {0}
-Own k (invoked t op ∷ H) = (op_belongs k op ≡ Clear) × Own k H
-Own k (returned t ret ∷ H) = (ret_belongs k ret ≡ Clear) × Own k H
+Own k (invoked t op ∷ H) = (op_belongs k op ≡ Ok tt) × Own k H
+Own k (returned t ret ∷ H) = (ret_belongs k ret ≡ Ok tt) × Own k H
 
 -- Events within document 01's sizes, of an object of kind k: threads 0 to 7, the object's own operations and returns, at most 64 invocations.
 pub record InSizes (k : Kind) (H : Events families) : Type 0 where
@@ -75,7 +73,7 @@ pub record InSizes (k : Kind) (H : Events families) : Type 0 where
 
 module _ (M : Model) where
   -- The call that an input is: what it draws, and the tester after it.
-  abbrev pub give : M.Tester → Input → Recorded × M.Tester
+  abbrev pub give : M.Tester → Input → Result Unit Reason × M.Tester
   give s (invoke t op) = M.on_invoke s t op
   give s (return t ret) = M.on_return s t ret
   give s (invret t op ret) = M.on_invret s t op ret
@@ -86,16 +84,16 @@ module _ (M : Model) where
   feed s (v ∷ l) = feed (give s v).1 l
 
   -- What each input drew at its turn.
-  abbrev pub drawn : M.Tester → Inputs → List Recorded
+  abbrev pub drawn : M.Tester → Inputs → List (Result Unit Reason)
   drawn s [] = []
   drawn s (v ∷ l) = (give s v).0 ∷ drawn (give s v).1 l
 
   -- The events that are recorded of an input. Of on_invret: none where the invocation is refused, and the invocation alone where only the return is.
   abbrev pub takes : M.Tester → Input → Events families
-  takes s (invoke t op) = cond (is_taken (M.on_invoke s t op).0) (invoked t op ∷ []) []
-  takes s (return t ret) = cond (is_taken (M.on_return s t ret).0) (returned t ret ∷ []) []
+  takes s (invoke t op) = cond (is_ok (M.on_invoke s t op).0) (invoked t op ∷ []) []
+  takes s (return t ret) = cond (is_ok (M.on_return s t ret).0) (returned t ret ∷ []) []
   takes s (invret t op ret) =
-      cond (is_taken (M.on_invoke s t op).0) (invoked t op ∷ cond (is_taken (M.on_invret s t op ret).0) (returned t ret ∷ []) []) []
+      cond (is_ok (M.on_invoke s t op).0) (invoked t op ∷ cond (is_ok (M.on_invret s t op ret).0) (returned t ret ∷ []) []) []
 
   -- The events that were recorded, in their order.
   abbrev pub taken : M.Tester → Inputs → Events families

@@ -1,5 +1,5 @@
 -- Events keep a history in shape.
-use Rattle.std.specs.Prelude.{ℕ, ◌+◌, ◌<◌, ◌≡◌, set, eqb}
+use Rattle.std.specs.Prelude.{ℕ, ◌+◌, ◌<◌, ◌≡◌, set, eqb, Some, None, Ok}
 use Rattle.std.proofs.Math.Path.{refl, sym, ap}
 use Rattle.std.proofs.Common.{◌∙◌, length-set, arith}
 use Rattle.std.proofs.Math.Bool.{true, false}
@@ -15,8 +15,6 @@ use Rattle.families.specs.Room.{clear_yes}
 use Rattle.families.specs.declared.Kind.{Kind}
 use Rattle.families.specs.declared.Op.{Op}
 use Rattle.families.specs.declared.Ret.{Ret}
-use Rattle.values.specs.declared.refusal.Check.TheVariants.{Clear}
-use Rattle.families.specs.declared.placing.Outcome.TheVariants.{Pending, Returned}
 use Rattle.stepping.specs.declared.histories.Operation.{Operation}
 use Rattle.stepping.specs.declared.histories.History.{History}
 use Rattle.stepping.specs.Record.{operation, held, is_pending, invalidated, extended, completed}
@@ -28,15 +26,15 @@ use Rattle.recording_meaning.specs.Exchanges.{fit_append, last_new, last_exchang
 
 -- an operation of one of the threads, and the object's own
 
-new_fits : (k : Kind) (t : ℕ) (op : Op) → t < threads → op_belongs k op ≡ Clear → operation_fits k (operation t op Pending) ≡ true
+new_fits : (k : Kind) (t : ℕ) (op : Op) → t < threads → op_belongs k op ≡ Ok tt → operation_fits k (operation t op None) ≡ true
 unfolding outcome_fits
-new_fits k t op l e = operation_fits_lem k (operation t op Pending) (record { known = l; own = e; answered = refl })
+new_fits k t op l e = operation_fits_lem k (operation t op None) (record { known = l; own = e; answered = refl })
 
-returned_fits : (k : Kind) (t : ℕ) (o : Operation) (ret : Ret) → t < threads → operation_fits k o ≡ true → ret_belongs k ret ≡ Clear
-    → operation_fits k (operation t o.op (Returned ret)) ≡ true
+returned_fits : (k : Kind) (t : ℕ) (o : Operation) (ret : Ret) → t < threads → operation_fits k o ≡ true → ret_belongs k ret ≡ Ok tt
+    → operation_fits k (operation t o.op (Some ret)) ≡ true
 unfolding outcome_fits
 returned_fits k t o ret l w e =
-    operation_fits_lem k (operation t o.op (Returned ret))
+    operation_fits_lem k (operation t o.op (Some ret))
     (record { known = l; own = (operation_parts k o w).own; answered = (clear_yes (ret_belongs k ret)).1 e })
 
 module _ (h : History) (w : Parts h) where
@@ -44,23 +42,23 @@ module _ (h : History) (w : Parts h) where
   keeps_invalidated = record { few = w.few; startable = w.startable; fit = w.fit; last = w.last; counted = w.counted }
 
   module _ (z : Sized h) (t : ℕ) (l : t < threads) where
-    pub keeps_extended : (op : Op) → h.count < capacity → op_belongs (kind_of h) op ≡ Clear → flies t (held h) ≡ false → Parts (extended h t op)
+    pub keeps_extended : (op : Op) → h.count < capacity → op_belongs (kind_of h) op ≡ Ok tt → flies t (held h) ≡ false → Parts (extended h t op)
     unfolding operations_fit
     keeps_extended op m e f =
         let s = held_extended h t op z m in
         record {
           few = omega arith;
           startable = w.startable;
-          fit = rw (s, fit_append (kind_of h) (held h) (operation t op Pending ∷ []), w.fit, new_fits (kind_of h) t op l e);
-          last = rw s (last_new (operation t op Pending) (held h) w.last f);
-          counted = λ u k. w.counted u k ∙ rw s (sym (done_new u (operation t op Pending) (held h) refl));
+          fit = rw (s, fit_append (kind_of h) (held h) (operation t op None ∷ []), w.fit, new_fits (kind_of h) t op l e);
+          last = rw s (last_new (operation t op None) (held h) w.last f);
+          counted = λ u k. w.counted u k ∙ rw s (sym (done_new u (operation t op None) (held h) refl));
         }
 
-    pub keeps_completed : (ret : Ret) {i : ℕ} → ret_belongs (kind_of h) ret ≡ Clear → Found t (held h) i → Parts (completed h i t ret)
+    pub keeps_completed : (ret : Ret) {i : ℕ} → ret_belongs (kind_of h) ret ≡ Ok tt → Found t (held h) i → Parts (completed h i t ret)
     unfolding operations_fit is_pending
     keeps_completed ret {i} e v =
         let s = held_completed h ret v in
-        let o : Operation = operation t v.one.op (Returned ret) in
+        let o : Operation = operation t v.one.op (Some ret) in
         let a : pick (operations_fit (kind_of h) v.before) (operations_fit (kind_of h) (v.one ∷ v.after)) false ≡ true
         = sym (fit_append (kind_of h) v.before (v.one ∷ v.after)) ∙ ap (operations_fit (kind_of h)) (sym v.split) ∙ w.fit in
         let b = pick_right (operations_fit (kind_of h) v.before) _ a in

@@ -1,6 +1,6 @@
 -- What both testers' calls share: an event changes the history as History's events do, and an invoke that is taken notes what history's recorder
 -- keeps.
-use Rattle.std.specs.Prelude.{ℕ, ◌+◌, ◌*◌, ◌<◌, ◌≡◌, refl, Bool, true, false, List, length, replicate}
+use Rattle.std.specs.Prelude.{ℕ, ◌+◌, ◌*◌, ◌<◌, ◌≡◌, refl, Bool, true, false, List, length, replicate, Result, Ok, is_ok}
 use Rattle.std.proofs.Common.{sym, ◌∙◌, subst, arith}
 use Rattle.std.proofs.lemmas.List.{length-replicate}
 use Rattle.values.specs.Sizes.{threads, capacity}
@@ -9,17 +9,16 @@ use Rattle.families.specs.declared.Object.{Object}
 use Rattle.families.specs.declared.Op.{Op}
 use Rattle.families.specs.declared.Ret.{Ret}
 use Rattle.stepping.specs.declared.histories.History.{History}
-use Rattle.stepping.specs.declared.recorded.Recorded.{Recorded}
-use Rattle.stepping.specs.declared.recorded.Recorded.TheVariants.{Taken}
 use Rattle.stepping.specs.declared.step.Step.{Step}
-use Rattle.recording.specs.declared.linearizability.After.{After as LAfter}
+use Rattle.recording.specs.declared.consistency_tester.After.{After}
 use Rattle.recording.specs.declared.linearizability.LinearizabilityTester.{LinearizabilityTester}
-use Rattle.recording.specs.declared.sequential_consistency.After.{After as SAfter}
+use Rattle.recording.specs.declared.sequential_consistency.SequentialConsistencyTester.{SequentialConsistencyTester}
 use Rattle.stepping.specs.Record.{fresh, invalidated, extended, completed}
 use Rattle.stepping.specs.Shape.{shape_of}
 use Rattle.recording.specs.Testers.{notes_shaped}
-use Rattle.stepping.specs.EventSteps.{is_taken, step, begun_of, invoke_of, return_of, size_of}
-use Rattle.recording.specs.Testers.{sequential, new_sequential, sequential_invoke, sequential_return, sequential_invret, sequential_len, linearizability, notes_after, new_linearizability, linearizability_invoke, linearizability_return, linearizability_invret, linearizability_len}
+use Rattle.stepping.specs.EventSteps.{step, begun_of, invoke_of, return_of, size_of}
+use Rattle.recording.specs.Calls.{in_turn, held_by}
+use Rattle.recording.specs.Testers.{sequential, new_sequential, sequential_invoke, sequential_return, linearizability, notes_after, new_linearizability, linearizability_invoke, linearizability_return}
 use Rattle.shape.specs.Notes.{notes_with}
 use Rattle.recording_meaning.specs.Reading.{Sized, notes_of}
 use Rattle.recording_meaning.specs.Beginning.{begun_is}
@@ -27,6 +26,7 @@ use Rattle.recording_meaning.specs.Parts.{pick_left, pick_right, pick_both, Part
 use Rattle.recording_meaning.specs.Noting.{notes_agree, with_length, with_before, noted_rows}
 use Rattle.recording_meaning.specs.NotesKeeping.{NotesParts, notes_parts, of_notes_parts, notes_extended, notes_completed}
 use Rattle.recording_meaning.specs.Models.{Model, tester_rows, sequential_model, linearizability_model}
+use Rattle.stepping.specs.declared.recorded.Reason.{Reason}
 
 pub record Lawful (M : Model) : Type 1 where
   -- what holds beside the history of a tester in shape
@@ -46,26 +46,26 @@ pub record Lawful (M : Model) : Type 1 where
   pub returns : (s : M.Tester) (t : ℕ) (ret : Ret) → M.on_return s t ret
       ≡ ((return_of (M.shaped s) (M.history s) t ret).recorded, after_return s (return_of (M.shaped s) (M.history s) t ret))
   pub invrets : (s : M.Tester) (t : ℕ) (op : Op) (ret : Ret) → M.on_invret s t op ret
-      ≡ pick (is_taken (M.on_invoke s t op).0) (M.on_return (M.on_invoke s t op).1 t ret) (M.on_invoke s t op)
+      ≡ pick (is_ok (M.on_invoke s t op).0) (M.on_return (M.on_invoke s t op).1 t ret) (M.on_invoke s t op)
   pub size : (s : M.Tester) → M.len s ≡ size_of (M.shaped s) (M.history s)
   -- the history after it, and the notes
   pub invoke_history : (s : M.Tester) (t : ℕ) (x : Step) → M.history (after_invoke s t x) ≡ x.history
   pub return_history : (s : M.Tester) (x : Step) → M.history (after_return s x) ≡ x.history
-  pub invoke_refused : (s : M.Tester) (t : ℕ) (x : Step) → is_taken x.recorded ≡ false → M.needs (after_invoke s t x) ≡ M.needs s
-  pub invoke_same : (s : M.Tester) (t : ℕ) (r : Recorded) → is_taken r ≡ false → after_invoke s t (step r (M.history s)) ≡ s
-  pub return_same : (s : M.Tester) (r : Recorded) → after_return s (step r (M.history s)) ≡ s
+  pub invoke_refused : (s : M.Tester) (t : ℕ) (x : Step) → is_ok x.recorded ≡ false → M.needs (after_invoke s t x) ≡ M.needs s
+  pub invoke_same : (s : M.Tester) (t : ℕ) (r : Result Unit Reason) → is_ok r ≡ false → after_invoke s t (step r (M.history s)) ≡ s
+  pub return_same : (s : M.Tester) (r : Result Unit Reason) → after_return s (step r (M.history s)) ≡ s
   pub return_needs : (s : M.Tester) (x : Step) → M.needs (after_return s x) ≡ M.needs s
   -- an invoke that is taken: earlier notes stay, its own are those kept of the rows
   pub invoke_noted : (s : M.Tester) (t : ℕ) (op : Op) → Parts (M.history s) → Beside s → t < threads → (M.history s).count < capacity
-      → (let x = after_invoke s t (step Taken (extended (M.history s) t op)) in
+      → (let x = after_invoke s t (step (Ok tt) (extended (M.history s) t op)) in
       ((k : ℕ) → k < (M.history s).count → M.needs x k ≡ M.needs s k) × (M.needs x (M.history s).count ≡ M.keep (tester_rows M s) t))
   -- what stands beside stays in shape
-  pub invoke_beside : (s : M.Tester) (t : ℕ) (r : Recorded) → is_taken r ≡ false → Beside s → Beside (after_invoke s t (step r (invalidated (M.history s))))
+  pub invoke_beside : (s : M.Tester) (t : ℕ) (r : Result Unit Reason) → is_ok r ≡ false → Beside s → Beside (after_invoke s t (step r (invalidated (M.history s))))
   pub extended_beside : (s : M.Tester) (t : ℕ) (op : Op) → Sized (M.history s) → Beside s → t < threads → (M.history s).count < capacity
-      → Beside (after_invoke s t (step Taken (extended (M.history s) t op)))
-  pub return_beside : (s : M.Tester) (r : Recorded) → Beside s → Beside (after_return s (step r (invalidated (M.history s))))
+      → Beside (after_invoke s t (step (Ok tt) (extended (M.history s) t op)))
+  pub return_beside : (s : M.Tester) (r : Result Unit Reason) → Beside s → Beside (after_return s (step r (invalidated (M.history s))))
   pub completed_beside : (s : M.Tester) (i t : ℕ) (ret : Ret) → Sized (M.history s) → Beside s → t < threads
-      → Beside (after_return s (step Taken (completed (M.history s) i t ret)))
+      → Beside (after_return s (step (Ok tt) (completed (M.history s) i t ret)))
 
 -- a choice, seen through a function
 pick_through : {A B : Type 0} (f : A → B) (b : Bool) (x y : A) → f (pick b x y) ≡ pick b (f x) (f y)
@@ -73,7 +73,7 @@ pick_through f true x y = refl
 pick_through f false x y = refl
 
 pub sequential_lawful : Lawful sequential_model
-unfolding new_sequential sequential_invoke sequential_return sequential_invret sequential_len
+unfolding new_sequential sequential_invoke sequential_return in_turn held_by
 sequential_lawful = record {
   Beside = λ s. Unit {0};
   in_shape = λ s z w b. of_parts s.history w;
@@ -87,7 +87,7 @@ sequential_lawful = record {
   invokes = λ s t op. refl;
   returns = λ s t ret. refl;
   invrets = λ s t op ret.
-      pick_through (λ (a : SAfter). (a.recorded, a.tester)) (is_taken (sequential_invoke s t op).recorded)
+      pick_through (λ (a : After SequentialConsistencyTester). (a.recorded, a.tester)) (is_ok (sequential_invoke s t op).recorded)
       (sequential_return (sequential_invoke s t op).tester t ret) (sequential_invoke s t op);
   size = λ s. refl;
   invoke_history = λ s t x. refl;
@@ -120,7 +120,7 @@ new_notes start = record {
 }
 
 pub linearizability_lawful : Lawful linearizability_model
-unfolding new_linearizability linearizability_invoke linearizability_return linearizability_invret linearizability_len is_taken
+unfolding new_linearizability linearizability_invoke linearizability_return in_turn held_by
 linearizability_lawful = record {
   Beside = Notes;
   in_shape = λ s z w b. pick_both (notes_shaped s) (shape_of s.history) (of_notes_parts s z b.parts) (of_parts s.history w);
@@ -137,7 +137,7 @@ linearizability_lawful = record {
   invokes = λ s t op. refl;
   returns = λ s t ret. refl;
   invrets = λ s t op ret.
-      pick_through (λ (a : LAfter). (a.recorded, a.tester)) (is_taken (linearizability_invoke s t op).recorded)
+      pick_through (λ (a : After LinearizabilityTester). (a.recorded, a.tester)) (is_ok (linearizability_invoke s t op).recorded)
       (linearizability_return (linearizability_invoke s t op).tester t ret) (linearizability_invoke s t op);
   size = λ s. refl;
   invoke_history = λ s t x. refl;

@@ -1,6 +1,7 @@
 -- What recording means: the reading of a record, both testers side by side, when each number is given, feeding, and all of it in one list.
 pub mod Reading
 pub mod Models
+pub mod AsRows
 pub mod Numbers
 pub mod Inputs
 pub mod InputLaws

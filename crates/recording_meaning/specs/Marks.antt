@@ -1,5 +1,5 @@
--- Marks of where each thread's operation in flight stands, 0 for none and else one more than the place, kept from event to event.
-use Rattle.std.specs.Prelude.{ℕ, ◌+◌, ◌-◌, ◌<◌, ◌≡◌, refl, ◌≢◌, Bool, true, false, ◌||◌, List, [], ◌∷◌, ◌++◌, length, get_or, set, replicate, eqb}
+-- Marks of where each thread's operation in flight stands, kept from event to event.
+use Rattle.std.specs.Prelude.{ℕ, ◌+◌, ◌<◌, ◌≡◌, refl, ◌≢◌, Bool, true, false, ◌||◌, List, [], ◌∷◌, ◌++◌, length, get_or, set, replicate, eqb, Option, Some, None}
 use Rattle.std.proofs.Math.Path.{sym, ap}
 use Rattle.std.proofs.Common.{◌∙◌, length-take, get_or-set_same, get_or-set_other, eq-eqb, ne_eqb, arith}
 use Rattle.history.specs.Lists.{own_or_other, not_both, get_d_same}
@@ -8,20 +8,17 @@ use Rattle.values.specs.Sizes.{threads, capacity}
 use Rattle.families.specs.declared.Object.{Object}
 use Rattle.families.specs.declared.Op.{Op}
 use Rattle.families.specs.declared.Ret.{Ret}
-use Rattle.families.specs.declared.placing.Outcome.TheVariants.{Pending, Returned}
 use Rattle.stepping.specs.declared.histories.Operation.{Operation}
 use Rattle.stepping.specs.declared.histories.History.{History}
-use Rattle.stepping.specs.declared.histories.Flying.TheVariants.{At, Nothing}
 use Rattle.stepping.specs.Record.{operation, held, fresh, is_pending, flying_by, flying_from, find_flying, extended, completed}
 use Rattle.stepping.specs.Shape.{none_of, flying_last}
-use Rattle.stepping.specs.StepChecks.{place_of}
 use Rattle.recording_meaning.specs.Reading.{Sized}
 use Rattle.recording_meaning.specs.Held.{held_extended, flies, Found, found_at, found_none, flying_none, held_completed}
 use Rattle.recording_meaning.specs.Exchanges.{last_first, last_rest}
 
 -- The marks say where.
-abbrev pub Marks : List ℕ → History → Type 0
-Marks flying h = (t : ℕ) → t < threads → place_of (get_or flying t 0) ≡ find_flying t h
+abbrev pub Marks : List (Option ℕ) → History → Type 0
+Marks flying h = (t : ℕ) → t < threads → get_or flying t None ≡ find_flying t h
 
 none_of_both : (a b : Bool) → a || b ≡ false → (a ≡ false) × (b ≡ false)
 none_of_both true b e = not_both refl e
@@ -30,25 +27,25 @@ none_of_both false b e = (refl, e)
 -- one more, last
 
 flying_new : (t i : ℕ) (o : Operation) (os : List Operation) → flies t os ≡ false → flying_by t o ≡ true
-    → flying_from t i (os ++ (o ∷ [])) ≡ At (i + length os)
+    → flying_from t i (os ++ (o ∷ [])) ≡ Some (i + length os)
 unfolding flying_from flies
-flying_new t i o [] f e = rw e (ap At (omega arith))
+flying_new t i o [] f e = rw e (ap Some (omega arith))
 flying_new t i o (x ∷ os) f e =
     let w = none_of_both (flying_by t x) (flies t os) f in
-    rw w.0 (flying_new t (i + 1) o os w.1 e ∙ ap At (omega arith))
+    rw w.0 (flying_new t (i + 1) o os w.1 e ∙ ap Some (omega arith))
 
 flying_beside : (u i : ℕ) (o : Operation) (os : List Operation) → flying_by u o ≡ false → flying_from u i (os ++ (o ∷ [])) ≡ flying_from u i os
 unfolding flying_from
 flying_beside u i o [] e = rw e refl
-flying_beside u i o (x ∷ os) e = ap (pick (flying_by u x) (At i)) (flying_beside u (i + 1) o os e)
+flying_beside u i o (x ∷ os) e = ap (pick (flying_by u x) (Some i)) (flying_beside u (i + 1) o os e)
 
 -- one in the place of another
 
 flying_exchange : (u i : ℕ) (o p : Operation) (os ps : List Operation) → flying_by u p ≡ flying_by u o
     → flying_from u i (os ++ (p ∷ ps)) ≡ flying_from u i (os ++ (o ∷ ps))
 unfolding flying_from
-flying_exchange u i o p [] ps e = ap (λ (b : Bool). pick b (At i) (flying_from u (i + 1) ps)) e
-flying_exchange u i o p (x ∷ os) ps e = ap (pick (flying_by u x) (At i)) (flying_exchange u (i + 1) o p os ps e)
+flying_exchange u i o p [] ps e = ap (λ (b : Bool). pick b (Some i) (flying_from u (i + 1) ps)) e
+flying_exchange u i o p (x ∷ os) ps e = ap (pick (flying_by u x) (Some i)) (flying_exchange u (i + 1) o p os ps e)
 
 -- an operation of another thread is none of this thread's in flight
 other_by : (u : ℕ) (o : Operation) → o.thread ≢ u → flying_by u o ≡ false
@@ -57,7 +54,7 @@ other_by u o d = rw (ne_eqb o.thread u d) refl
 
 -- behind an operation in flight its thread has none
 
-after_last : (o : Operation) (os ps : List Operation) → o.outcome ≡ Pending → flying_last (os ++ (o ∷ ps)) ≡ true → none_of o.thread ps ≡ true
+after_last : (o : Operation) (os ps : List Operation) → o.outcome ≡ None → flying_last (os ++ (o ∷ ps)) ≡ true → none_of o.thread ps ≡ true
 unfolding is_pending
 after_last o [] ps e w = rw e at (last_first o ps w)
 after_last o (x ∷ os) ps e w = after_last o os ps e (last_rest x (os ++ (o ∷ ps)) w)
@@ -77,57 +74,47 @@ unfolding flies
 flies_join t [] ps a b = b
 flies_join t (o ∷ os) ps a b = let w = none_of_both (flying_by t o) (flies t os) a in rw w.0 (flies_join t os ps w.1 b)
 
--- what the thread's mark says
-
-says_at : (n : ℕ) → place_of (n + 1) ≡ At n
-unfolding place_of
-says_at n = let e : n + 1 - 1 ≡ n = omega arith in rw (ne_eqb (n + 1) 0 (λ q. omega arith), e) refl
-
-says_nothing : place_of 0 ≡ Nothing
-unfolding place_of
-says_nothing = refl
-
-pub marks_fresh : (start : Object) → Marks (replicate threads 0) (fresh start)
+pub marks_fresh : (start : Object) → Marks (replicate threads None) (fresh start)
 unfolding fresh find_flying flying_from
-marks_fresh start t l = ap place_of (get_d_same {A = ℕ} threads t 0) ∙ says_nothing
+marks_fresh start t l = get_d_same {A = Option ℕ} threads t None
 
-module _ (h : History) (flying : List ℕ) (long : length flying ≡ threads) (m : Marks flying h) (t : ℕ) (l : t < threads) where
-  pub marks_extended : (op : Op) → Sized h → h.count < capacity → find_flying t h ≡ Nothing → Marks (set flying t (h.count + 1)) (extended h t op)
+module _ (h : History) (flying : List (Option ℕ)) (long : length flying ≡ threads) (m : Marks flying h) (t : ℕ) (l : t < threads) where
+  pub marks_extended : (op : Op) → Sized h → h.count < capacity → find_flying t h ≡ None → Marks (set flying t (Some h.count)) (extended h t op)
   unfolding find_flying flying_by is_pending
   marks_extended op z k e =
-      own_or_other (λ u. u < threads → place_of (get_or (set flying t (h.count + 1)) u 0) ≡ find_flying u (extended h t op)) t
-      (λ _. ap place_of (get_or-set_same flying t _ 0 (rw long l)) ∙ says_at h.count ∙ sym own)
-      (λ u d q. ap place_of (get_or-set_other flying t u _ 0 d) ∙ m u q ∙ sym (other u d))
+      own_or_other (λ u. u < threads → get_or (set flying t (Some h.count)) u None ≡ find_flying u (extended h t op)) t
+      (λ _. get_or-set_same flying t _ None (rw long l) ∙ sym own)
+      (λ u d q. get_or-set_other flying t u _ None d ∙ m u q ∙ sym (other u d))
     where
       new : Operation
-      new = operation t op Pending
+      new = operation t op None
 
-      own : find_flying t (extended h t op) ≡ At h.count
+      own : find_flying t (extended h t op) ≡ Some h.count
       own =
           ap (flying_from t 0) (held_extended h t op z k)
           ∙ flying_new t 0 new (held h) (found_none t h e) (rw (eq-eqb t t refl) refl)
-          ∙ ap At (omega (arith, length-take h.count h.ops, z.places))
+          ∙ ap Some (omega (arith, length-take h.count h.ops, z.places))
 
       other : (u : ℕ) → u ≢ t → find_flying u (extended h t op) ≡ find_flying u h
       other u d = ap (flying_from u 0) (held_extended h t op z k) ∙ flying_beside u 0 new (held h) (other_by u new (λ q. d (sym q)))
 
-  pub marks_completed : (ret : Ret) {i : ℕ} → flying_last (held h) ≡ true → find_flying t h ≡ At i → Marks (set flying t 0) (completed h i t ret)
+  pub marks_completed : (ret : Ret) {i : ℕ} → flying_last (held h) ≡ true → find_flying t h ≡ Some i → Marks (set flying t None) (completed h i t ret)
   unfolding find_flying flies flying_by is_pending
   marks_completed ret {i} w e =
-      own_or_other (λ u. u < threads → place_of (get_or (set flying t 0) u 0) ≡ find_flying u (completed h i t ret)) t
-      (λ _. ap place_of (get_or-set_same flying t 0 0 (rw long l)) ∙ says_nothing ∙ sym own)
-      (λ u d q. ap place_of (get_or-set_other flying t u 0 0 d) ∙ m u q ∙ sym (other u d))
+      own_or_other (λ u. u < threads → get_or (set flying t None) u None ≡ find_flying u (completed h i t ret)) t
+      (λ _. get_or-set_same flying t None None (rw long l) ∙ sym own)
+      (λ u d q. get_or-set_other flying t u None None d ∙ m u q ∙ sym (other u d))
     where
       v : Found t (held h) i
       v = found_at t h i e
 
       x : Operation
-      x = operation t v.one.op (Returned ret)
+      x = operation t v.one.op (Some ret)
 
       rest : flies t (x ∷ v.after) ≡ false
       rest = rw (eq-eqb t t refl) (none_flies t v.after (rw v.own at (after_last v.one v.before v.after v.in_flight (rw v.split at w))))
 
-      own : find_flying t (completed h i t ret) ≡ Nothing
+      own : find_flying t (completed h i t ret) ≡ None
       own = flying_none t (completed h i t ret) (ap (flies t) (held_completed h ret v) ∙ flies_join t v.before (x ∷ v.after) v.first rest)
 
       other : (u : ℕ) → u ≢ t → find_flying u (completed h i t ret) ≡ find_flying u h

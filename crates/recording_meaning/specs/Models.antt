@@ -1,5 +1,5 @@
 -- The two testers side by side: what each reads as, and its public calls, so that what they share is said once.
-use Rattle.std.specs.Prelude.{ℕ, ◌*◌, ◌≡◌, Bool, true, List, length}
+use Rattle.std.specs.Prelude.{ℕ, ◌*◌, ◌≡◌, Bool, true, List, length, Result}
 use Rattle.history.specs.Rows.{Rows}
 use Rattle.history.specs.Recorder.{notes, rows_no_notes}
 use Rattle.values.specs.Sizes.{threads, capacity}
@@ -8,13 +8,13 @@ use Rattle.families.specs.declared.Object.{Object}
 use Rattle.families.specs.declared.Op.{Op}
 use Rattle.families.specs.declared.Ret.{Ret}
 use Rattle.stepping.specs.declared.histories.History.{History}
-use Rattle.stepping.specs.declared.recorded.Made.{Made}
-use Rattle.stepping.specs.declared.recorded.Recorded.{Recorded}
 use Rattle.recording.specs.declared.linearizability.LinearizabilityTester.{LinearizabilityTester}
 use Rattle.recording.specs.declared.sequential_consistency.SequentialConsistencyTester.{SequentialConsistencyTester}
 use Rattle.stepping.specs.Shape.{shaped_with}
 use Rattle.recording.specs.Testers.{new_sequential, sequential_invoke, sequential_return, sequential_invret, sequential_len, shaped_tester, new_linearizability, linearizability_invoke, linearizability_return, linearizability_invret, linearizability_len}
 use Rattle.recording_meaning.specs.Reading.{Sized, rows_of, no_notes, notes_of}
+use Rattle.values.specs.declared.refusal.Refusal.{Refusal}
+use Rattle.stepping.specs.declared.recorded.Reason.{Reason}
 
 -- A tester, and what its calls answer and leave.
 pub record Model : Type 1 where
@@ -28,11 +28,11 @@ pub record Model : Type 1 where
   pub keep : Rows families → ℕ → List ℕ
   -- in shape: not number 9
   pub shaped : Tester → Bool
-  pub made : Object → Made
+  pub made : Object → Result Unit Refusal
   pub new : Object → Tester
-  pub on_invoke : Tester → ℕ → Op → Recorded × Tester
-  pub on_return : Tester → ℕ → Ret → Recorded × Tester
-  pub on_invret : Tester → ℕ → Op → Ret → Recorded × Tester
+  pub on_invoke : Tester → ℕ → Op → Result Unit Reason × Tester
+  pub on_return : Tester → ℕ → Ret → Result Unit Reason × Tester
+  pub on_invret : Tester → ℕ → Op → Ret → Result Unit Reason × Tester
   pub len : Tester → ℕ
 
 -- The rows that a tester reads as.

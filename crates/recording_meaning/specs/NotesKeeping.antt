@@ -1,6 +1,6 @@
 -- The shape of notes, place by place, and that calls keep it.
 use Prim.Native.Nat.{ℕ, zero, suc, ◌+◌, ◌*◌, ◌<◌, ◌≤◌}
-use Rattle.std.specs.Prelude.{◌≡◌, Bool, true, false, length, get_or, set, eqb, ltb}
+use Rattle.std.specs.Prelude.{◌≡◌, Bool, true, false, length, get_or, set, eqb, ltb, Some, None}
 use Rattle.std.proofs.Math.Path.{refl, subst}
 use Rattle.std.proofs.Common.{sym, ap, ◌∙◌, length-take, get_or-set_same, get_or-set_other, get_or-take}
 use mathlib.Core.List.{List, [], ◌∷◌}
@@ -14,7 +14,6 @@ use Rattle.values.specs.Value.{pick}
 use Rattle.values.specs.Sizes.{threads, capacity}
 use Rattle.families.specs.declared.Op.{Op}
 use Rattle.families.specs.declared.Ret.{Ret}
-use Rattle.families.specs.declared.placing.Outcome.TheVariants.{Pending, Returned}
 use Rattle.stepping.specs.declared.histories.Operation.{Operation}
 use Rattle.stepping.specs.declared.histories.History.{History}
 use Rattle.recording.specs.declared.linearizability.LinearizabilityTester.{LinearizabilityTester}
@@ -101,7 +100,7 @@ done_grows done t u l =
 -- the thread of an operation stays
 thread_kept : (h : History) (i j t : ℕ) (ret : Ret) → (operation_at (completed h i t ret) j).thread ≡ (operation_at h j).thread
 thread_kept h i j t ret =
-    let o : Operation = operation (operation_at h i).thread (operation_at h i).op (Returned ret) in
+    let o : Operation = operation (operation_at h i).thread (operation_at h i).op (Some ret) in
     let f : Operation → ℕ = λ p. p.thread in
     sym (get_or-map f (set h.ops i o) j blank_operation)
     ∙ ap (λ (l : List ℕ). get_or l j 0) (map-set_same f h.ops i o blank_operation refl)
@@ -118,14 +117,14 @@ module _ (h : History) (notes : List ℕ) (z : Sized h) (w : NotesParts h notes)
           let k = ltb-true i h.count y in
           rw (
             with_before h.done t h.count notes threads (i * threads + u) (omega arith),
-            get_or-set_other h.ops h.count i (operation t op Pending) blank_operation (λ x. omega arith),
+            get_or-set_other h.ops h.count i (operation t op None) blank_operation (λ x. omega arith),
           ) (w.most i k u b)
       go i false y m u b =
           let k : i ≡ h.count = omega (arith, ltb-false i h.count y) in
           rw (
             k,
             with_own h.done t h.count notes threads u b (omega arith),
-            get_or-set_same h.ops h.count (operation t op Pending) blank_operation (omega (arith, z.places)),
+            get_or-set_same h.ops h.count (operation t op None) blank_operation (omega (arith, z.places)),
           ) (omega arith)
 
   pub notes_completed : (i : ℕ) (ret : Ret) → NotesParts (completed h i t ret) notes

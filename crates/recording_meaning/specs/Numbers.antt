@@ -1,5 +1,5 @@
 -- When each number is given, for any record. The order of the refusals is that of the lines: each says that none before it applies.
-use Rattle.std.specs.Prelude.{ℕ, ◌<◌, ◌≤◌, ◌≡◌, Bool, true, false}
+use Rattle.std.specs.Prelude.{ℕ, ◌<◌, ◌≤◌, ◌≡◌, Bool, true, false, Result, Ok, Err}
 use Rattle.history.specs.Rows.{row}
 use Rattle.history.specs.Recorder.{flying}
 use Rattle.values.specs.Sizes.{threads, capacity}
@@ -9,24 +9,20 @@ use Rattle.families.specs.Families.{families}
 use Rattle.families.specs.declared.Object.{Object}
 use Rattle.families.specs.declared.Op.{Op}
 use Rattle.families.specs.declared.Ret.{Ret}
-use Rattle.values.specs.declared.refusal.Check.{Check}
-use Rattle.values.specs.declared.refusal.Check.TheVariants.{Clear, Refused as CRefused}
 use Rattle.stepping.specs.declared.histories.History.{History}
-use Rattle.stepping.specs.declared.recorded.Made.{Made}
-use Rattle.stepping.specs.declared.recorded.Made.TheVariants.{New, Refused as MRefused}
-use Rattle.stepping.specs.declared.recorded.Recorded.{Recorded}
-use Rattle.stepping.specs.declared.recorded.Recorded.TheVariants.{Taken, Refused}
 use Rattle.stepping.specs.declared.recorded.Reason.TheVariants.{AlreadyInvalid, NoSuchThread, NotOwn, InFlight, NothingInFlight, Full, OutOfShape}
 use Rattle.stepping.specs.Shape.{kind_of}
 use Rattle.recording_meaning.specs.Models.{Model, tester_rows}
+use Rattle.values.specs.declared.refusal.Refusal.{Refusal}
+use Rattle.stepping.specs.declared.recorded.Reason.{Reason}
 
-module _ (shaped : Bool) (h : History) (t : ℕ) (said : Check) where
+module _ (shaped : Bool) (h : History) (t : ℕ) (said : Result Unit Refusal) where
   -- None of the refusals 9, 1 and 2 applies to an event of thread t, and the object refuses nothing, saying `said` of it.
   pub record Admitted : Type 0 where
     pub in_shape : shaped ≡ true
     pub valid : h.valid ≡ true
     pub known : t < threads
-    pub own : said ≡ Clear
+    pub own : said ≡ Ok tt
 
 module _ (M : Model) where
   -- A thread has an operation in flight.
@@ -35,10 +31,10 @@ module _ (M : Model) where
 
   -- What a tester's object says of an operation, and of a return.
 
-  abbrev pub op_said : M.Tester → Op → Check
+  abbrev pub op_said : M.Tester → Op → Result Unit Refusal
   op_said s op = op_belongs (kind_of (M.history s)) op
 
-  abbrev pub ret_said : M.Tester → Ret → Check
+  abbrev pub ret_said : M.Tester → Ret → Result Unit Refusal
   ret_said s ret = ret_belongs (kind_of (M.history s)) ret
 
 -- When an admitted event is given each number that is left.
@@ -50,19 +46,19 @@ pub record Left : Type 1 where
 
 module _ (M : Model) (s : M.Tester) (t : ℕ) where
   -- A tester admits an event of thread t of which its object says `said`.
-  abbrev pub Fine : Check → Type 0
+  abbrev pub Fine : Result Unit Refusal → Type 0
   Fine said = Admitted (M.shaped s) (M.history s) t said
 
   -- When an event is given each number.
-  abbrev pub EventWhen : Check → Left → Recorded → Type 0
-  EventWhen said left (Refused OutOfShape) = M.shaped s ≡ false
-  EventWhen said left (Refused AlreadyInvalid) = (M.shaped s ≡ true) × ((M.history s).valid ≡ false)
-  EventWhen said left (Refused NoSuchThread) = (M.shaped s ≡ true) × ((M.history s).valid ≡ true) × (threads ≤ t)
-  EventWhen said left (Refused (NotOwn r)) = (M.shaped s ≡ true) × ((M.history s).valid ≡ true) × (t < threads) × (said ≡ CRefused r)
-  EventWhen said left (Refused InFlight) = Fine said × left.in_flight
-  EventWhen said left (Refused NothingInFlight) = Fine said × left.nothing_in_flight
-  EventWhen said left (Refused Full) = Fine said × left.full
-  EventWhen said left Taken = Fine said × left.taken
+  abbrev pub EventWhen : Result Unit Refusal → Left → Result Unit Reason → Type 0
+  EventWhen said left (Err OutOfShape) = M.shaped s ≡ false
+  EventWhen said left (Err AlreadyInvalid) = (M.shaped s ≡ true) × ((M.history s).valid ≡ false)
+  EventWhen said left (Err NoSuchThread) = (M.shaped s ≡ true) × ((M.history s).valid ≡ true) × (threads ≤ t)
+  EventWhen said left (Err (NotOwn r)) = (M.shaped s ≡ true) × ((M.history s).valid ≡ true) × (t < threads) × (said ≡ Err r)
+  EventWhen said left (Err InFlight) = Fine said × left.in_flight
+  EventWhen said left (Err NothingInFlight) = Fine said × left.nothing_in_flight
+  EventWhen said left (Err Full) = Fine said × left.full
+  EventWhen said left (Ok tt) = Fine said × left.taken
 
   -- An invocation: 4, then 6, then 0.
   abbrev pub InvokeLeft : Left
@@ -73,7 +69,7 @@ module _ (M : Model) (s : M.Tester) (t : ℕ) where
     taken = (Busy M s t ≡ false) × ((M.history s).count < capacity);
   }
 
-  abbrev pub InvokeWhen : Op → Recorded → Type 0
+  abbrev pub InvokeWhen : Op → Result Unit Reason → Type 0
   InvokeWhen op r = EventWhen (op_said M s op) InvokeLeft r
 
   -- A return: 5, then 0.
@@ -85,10 +81,10 @@ module _ (M : Model) (s : M.Tester) (t : ℕ) where
     taken = Busy M s t ≡ true;
   }
 
-  abbrev pub ReturnWhen : Ret → Recorded → Type 0
+  abbrev pub ReturnWhen : Ret → Result Unit Reason → Type 0
   ReturnWhen ret r = EventWhen (ret_said M s ret) ReturnLeft r
 
 -- When a constructor is given each number: what the object says of being a start.
-abbrev pub MadeWhen : Object → Made → Type 0
-MadeWhen start New = StartWhen start.kind Clear
-MadeWhen start (MRefused r) = StartWhen start.kind (CRefused r)
+abbrev pub MadeWhen : Object → Result Unit Refusal → Type 0
+MadeWhen start (Ok tt) = StartWhen start.kind (Ok tt)
+MadeWhen start (Err r) = StartWhen start.kind (Err r)

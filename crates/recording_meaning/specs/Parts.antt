@@ -1,6 +1,6 @@
 -- The test of a history's shape in its parts.
 use Prim.Native.Nat.{ℕ, zero, suc, ◌<◌, ◌≤◌}
-use Rattle.std.specs.Prelude.{◌≡◌, Bool, get_or, leb, eqb}
+use Rattle.std.specs.Prelude.{◌≡◌, Bool, get_or, leb, eqb, Ok, is_ok}
 use Rattle.std.proofs.Math.Path.{refl}
 use Rattle.std.proofs.Math.Bool.{true, false}
 use Rattle.std.proofs.Math.Dec.{ltb}
@@ -9,11 +9,9 @@ use Rattle.std.proofs.Common.{arith}
 use Rattle.history.specs.Lists.{not_both}
 use Rattle.values.specs.Value.{pick}
 use Rattle.values.specs.Sizes.{threads, capacity}
-use Rattle.values.specs.Checks.{is_clear}
 use Rattle.families.specs.Refusals.{op_belongs, start_check}
 use Rattle.families.specs.Room.{clear_yes}
 use Rattle.families.specs.declared.Kind.{Kind}
-use Rattle.values.specs.declared.refusal.Check.TheVariants.{Clear}
 use Rattle.stepping.specs.declared.histories.Operation.{Operation}
 use Rattle.stepping.specs.declared.histories.History.{History}
 use Rattle.stepping.specs.Record.{held}
@@ -53,7 +51,7 @@ module _ (p : ℕ → Bool) where
 
 pub record OperationParts (k : Kind) (o : Operation) : Type 0 where
   pub known : o.thread < threads
-  pub own : op_belongs k o.op ≡ Clear
+  pub own : op_belongs k o.op ≡ Ok tt
   pub answered : outcome_fits k o.outcome ≡ true
 
 pub operation_parts : (k : Kind) (o : Operation) → operation_fits k o ≡ true → OperationParts k o
@@ -62,8 +60,8 @@ operation_parts k o e =
     let a = pick_right (ltb o.thread threads) _ e in
     record {
       known = ltb-true _ _ (pick_left (ltb o.thread threads) _ e);
-      own = (clear_yes _).0 (pick_left (is_clear (op_belongs k o.op)) _ a);
-      answered = pick_right (is_clear (op_belongs k o.op)) _ a;
+      own = (clear_yes _).0 (pick_left (is_ok (op_belongs k o.op)) _ a);
+      answered = pick_right (is_ok (op_belongs k o.op)) _ a;
     }
 
 pub operation_fits_lem : (k : Kind) (o : Operation) → OperationParts k o → operation_fits k o ≡ true
@@ -72,7 +70,7 @@ operation_fits_lem k o w = rw (lt-ltb o.thread threads w.known, (clear_yes (op_b
 
 pub record Parts (h : History) : Type 0 where
   pub few : h.count ≤ capacity
-  pub startable : start_check (kind_of h) ≡ Clear
+  pub startable : start_check (kind_of h) ≡ Ok tt
   pub fit : operations_fit (kind_of h) (held h) ≡ true
   pub last : flying_last (held h) ≡ true
   pub counted : (t : ℕ) → t < threads → get_or h.done t 0 ≡ count_done t (held h)
@@ -81,11 +79,11 @@ pub parts_of : (h : History) → shape_of h ≡ true → Parts h
 unfolding shape_of counts_right
 parts_of h e =
     let a = pick_right (leb h.count capacity) _ e in
-    let b = pick_right (is_clear (start_check (kind_of h))) _ a in
+    let b = pick_right (is_ok (start_check (kind_of h))) _ a in
     let c = pick_right (operations_fit (kind_of h) (held h)) _ b in
     record {
       few = leb-true _ _ (pick_left (leb h.count capacity) _ e);
-      startable = (clear_yes _).0 (pick_left (is_clear (start_check (kind_of h))) _ a);
+      startable = (clear_yes _).0 (pick_left (is_ok (start_check (kind_of h))) _ a);
       fit = pick_left (operations_fit (kind_of h) (held h)) _ b;
       last = pick_left (flying_last (held h)) _ c;
       counted = λ t l. eqb-true _ _ (below_each (λ u. eqb (get_or h.done u 0) (count_done u (held h))) threads (pick_right (flying_last (held h)) _ c) t l);

@@ -1,17 +1,15 @@
 -- Every tester that constructors and calls make is in shape, so that none of them gets number 9.
-use Rattle.std.specs.Prelude.{ℕ, ◌≡◌, refl, Bool, true, false}
+use Rattle.std.specs.Prelude.{ℕ, ◌≡◌, refl, Bool, true, false, Result, Err, is_ok}
 use Rattle.std.proofs.Common.{sym, ◌∙◌}
 use Rattle.std.proofs.Math.Path.{subst}
 use Rattle.values.specs.Value.{pick}
 use Rattle.families.specs.declared.Object.{Object}
 use Rattle.families.specs.declared.Op.{Op}
 use Rattle.families.specs.declared.Ret.{Ret}
-use Rattle.stepping.specs.declared.recorded.Recorded.{Recorded}
-use Rattle.stepping.specs.declared.recorded.Recorded.TheVariants.{Refused}
 use Rattle.stepping.specs.declared.recorded.Reason.{Reason}
 use Rattle.stepping.specs.declared.recorded.Reason.TheVariants.{InFlight, NothingInFlight, Full, OutOfShape}
 use Rattle.stepping.specs.declared.step.Step.{Step}
-use Rattle.stepping.specs.EventSteps.{is_taken, refuse}
+use Rattle.stepping.specs.EventSteps.{refuse}
 use Rattle.recording_meaning.specs.Reading.{Sized}
 use Rattle.recording_meaning.specs.Parts.{Parts}
 use Rattle.recording_meaning.specs.Keeping.{keeps_invalidated, keeps_extended, keeps_completed, sized_invalidated, sized_extended, sized_completed}
@@ -50,19 +48,18 @@ module _ (M : Model) where
 
     module _ (s : M.Tester) (g : Good M L s) (t : ℕ) where
       pub good_invoke : (op : Op) → Good M L (M.on_invoke s t op).1
-      unfolding is_taken
       good_invoke op =
           let w = invoke_goes (M.shaped s) (M.history s) t op in
-          subst (λ (a : Recorded × M.Tester). Good M L a.1) (sym (L.invokes s t op)) (judge w.judge w.invoke)
+          subst (λ (a : Result Unit Reason × M.Tester). Good M L a.1) (sym (L.invokes s t op)) (judge w.judge w.invoke)
         where
           same : (r : Reason) → Good M L (L.after_invoke s t (refuse r (M.history s)))
-          same r = subst (Good M L) (sym (L.invoke_same s t (Refused r) refl)) g
+          same r = subst (Good M L) (sym (L.invoke_same s t (Err r) refl)) g
 
           run : {x : Step} → Fine M s t (op_said M s op) → Invoked (M.history s) t op x → Good M L (L.after_invoke s t x)
           run a (busy w) = record {
             sized = subst Sized (sym (L.invoke_history s t _)) (sized_invalidated (M.history s) g.sized);
             parts = subst Parts (sym (L.invoke_history s t _)) (keeps_invalidated (M.history s) g.parts);
-            beside = L.invoke_beside s t (Refused InFlight) refl g.beside;
+            beside = L.invoke_beside s t (Err InFlight) refl g.beside;
           }
           run a (full f l) = same Full
           run a (begun f l) = record {
@@ -79,16 +76,16 @@ module _ (M : Model) where
       pub good_return : (ret : Ret) → Good M L (M.on_return s t ret).1
       good_return ret =
           let w = return_goes (M.shaped s) (M.history s) t ret in
-          subst (λ (a : Recorded × M.Tester). Good M L a.1) (sym (L.returns s t ret)) (judge w.judge w.return)
+          subst (λ (a : Result Unit Reason × M.Tester). Good M L a.1) (sym (L.returns s t ret)) (judge w.judge w.return)
         where
           same : (r : Reason) → Good M L (L.after_return s (refuse r (M.history s)))
-          same r = subst (Good M L) (sym (L.return_same s (Refused r))) g
+          same r = subst (Good M L) (sym (L.return_same s (Err r))) g
 
           run : {x : Step} → Fine M s t (ret_said M s ret) → Returning (M.history s) t ret x → Good M L (L.after_return s x)
           run a (idle f) = record {
             sized = subst Sized (sym (L.return_history s _)) (sized_invalidated (M.history s) g.sized);
             parts = subst Parts (sym (L.return_history s _)) (keeps_invalidated (M.history s) g.parts);
-            beside = L.return_beside s (Refused NothingInFlight) g.beside;
+            beside = L.return_beside s (Err NothingInFlight) g.beside;
           }
           run a (ended {i = i} w) = record {
             sized = subst Sized (sym (L.return_history s _)) (sized_completed (M.history s) i t ret g.sized);
@@ -103,7 +100,7 @@ module _ (M : Model) where
 
     pub good_invret : (s : M.Tester) → Good M L s → (t : ℕ) (op : Op) (ret : Ret) → Good M L (M.on_invret s t op ret).1
     good_invret s g t op ret =
-        subst (λ (a : Recorded × M.Tester). Good M L a.1) (sym (L.invrets s t op ret)) (go (is_taken (M.on_invoke s t op).0) (good_invoke s g t op))
+        subst (λ (a : Result Unit Reason × M.Tester). Good M L a.1) (sym (L.invrets s t op ret)) (go (is_ok (M.on_invoke s t op).0) (good_invoke s g t op))
       where
         go : (b : Bool) → Good M L (M.on_invoke s t op).1 → Good M L (pick b (M.on_return (M.on_invoke s t op).1 t ret) (M.on_invoke s t op)).1
         go true h = good_return (M.on_invoke s t op).1 h t ret

@@ -1,12 +1,10 @@
 -- What a record means: the rows of history's recorder, one for each thread.
-use Rattle.std.specs.Prelude.{ℕ, zero, suc, ◌*◌, ◌≡◌, cond, List, [], ◌∷◌, length, take, drop, eqb}
-use Rattle.std.proofs.Math.Option.{Option, none, some}
+use Rattle.std.specs.Prelude.{ℕ, zero, suc, ◌*◌, ◌≡◌, cond, List, [], ◌∷◌, length, take, drop, eqb, Option, Some, None}
+use Rattle.std.proofs.Math.Option.{Option as MathOption, none, some}
 use Rattle.history.specs.Rows.{Entry, Rows}
 use Rattle.values.specs.Sizes.{threads, capacity}
 use Rattle.families.specs.Families.{families}
 use Rattle.families.specs.declared.Ret.{Ret}
-use Rattle.families.specs.declared.placing.Outcome.{Outcome}
-use Rattle.families.specs.declared.placing.Outcome.TheVariants.{Pending, Returned}
 use Rattle.stepping.specs.declared.histories.Operation.{Operation}
 use Rattle.stepping.specs.declared.histories.History.{History}
 use Rattle.stepping.specs.Record.{held}
@@ -17,9 +15,9 @@ pub record Sized (h : History) : Type 0 where
   pub counters : length h.done ≡ threads
 
 -- A return, or none while the operation is in flight.
-abbrev pub return_in : Outcome → Option Ret
-return_in Pending = none
-return_in (Returned r) = some r
+abbrev pub return_in : Option Ret → MathOption Ret
+return_in None = none
+return_in (Some r) = some r
 
 -- An operation with its notes.
 abbrev pub entry_of : Operation → List ℕ → Entry families

@@ -1,5 +1,5 @@
 -- A history's rows: what they hold, and what an event makes of them, whatever notes stand beside.
-use Rattle.std.specs.Prelude.{ℕ, suc, ◌+◌, ◌<◌, ◌≡◌, refl, Bool, true, false, cond, ◌||◌, eqb}
+use Rattle.std.specs.Prelude.{ℕ, suc, ◌+◌, ◌<◌, ◌≡◌, refl, Bool, true, false, cond, ◌||◌, eqb, Option, Some, None}
 use Rattle.std.proofs.Common.{sym, ◌∙◌, arith}
 use Rattle.std.proofs.Math.Path.{ap}
 use Rattle.std.proofs.Math.Option.{none, some}
@@ -12,8 +12,6 @@ use Rattle.values.specs.Sizes.{threads, capacity}
 use Rattle.families.specs.Families.{families}
 use Rattle.families.specs.declared.Op.{Op}
 use Rattle.families.specs.declared.Ret.{Ret}
-use Rattle.families.specs.declared.placing.Outcome.{Outcome}
-use Rattle.families.specs.declared.placing.Outcome.TheVariants.{Pending, Returned}
 use Rattle.stepping.specs.declared.histories.Operation.{Operation}
 use Rattle.stepping.specs.declared.histories.History.{History}
 use Rattle.stepping.specs.Record.{operation, held, is_pending, flying_by, invalidated, extended, completed}
@@ -47,10 +45,10 @@ entries_same needs other i n (o ∷ os) e f = rw (f i (omega arith), entries_sam
 
 -- a row has an operation in flight exactly if its thread has one
 
-pending_return : (o : Outcome) → pending families (return_in o) ≡ is_pending o
+pending_return : (o : Option Ret) → pending families (return_in o) ≡ is_pending o
 unfolding is_pending
-pending_return Pending = refl
-pending_return (Returned r) = refl
+pending_return None = refl
+pending_return (Some r) = refl
 
 flying_flies : (needs : ℕ → List ℕ) (i t : ℕ) (os : List Operation) → flying families (of_thread t (entries needs i os)) ≡ flies t os
 unfolding flies flying_by
@@ -84,7 +82,7 @@ module _ (h : History) (t : ℕ) (low : t < threads) where
       let e : entries other 0 (held (extended h t op))
       ≡ entries needs 0 (held h) ++ ((t, record { op = op; ret = none; needs = other h.count }) ∷ [])
       = ap (entries other 0) (held_extended h t op z l)
-      ∙ entries_append other 0 h.count (held h) (operation t op Pending ∷ []) n
+      ∙ entries_append other 0 h.count (held h) (operation t op None ∷ []) n
       ∙ rw (entries_same needs other 0 h.count (held h) n f) in
       ap (by_thread 0 threads) e ∙ rows_add threads t _ (entries needs 0 (held h)) low
 

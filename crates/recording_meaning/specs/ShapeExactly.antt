@@ -1,5 +1,5 @@
 -- The tests of shape are exactly the shape that the records InShape and NotesInShape spell out.
-use Rattle.std.specs.Prelude.{ℕ, zero, suc, ◌<◌, ◌≤◌, ◌≡◌, refl, ◌≢◌, ◌↔◌, Bool, true, false, List, [], ◌∷◌, length, get_or, eqb}
+use Rattle.std.specs.Prelude.{ℕ, zero, suc, ◌<◌, ◌≤◌, ◌≡◌, refl, ◌≢◌, ◌↔◌, Bool, true, false, List, [], ◌∷◌, length, get_or, eqb, Option, Some, None, Ok}
 use Rattle.std.proofs.Common.{sym, ap, ◌∙◌, subst, length-take, get_or-take, ne_eqb, arith}
 use Rattle.std.proofs.lemmas.Bool.{eqb-false}
 use Rattle.history.specs.Lists.{not_both, own_or_other}
@@ -9,9 +9,6 @@ use Rattle.families.specs.Refusals.{ret_belongs}
 use Rattle.families.specs.Room.{clear_yes}
 use Rattle.families.specs.declared.Kind.{Kind}
 use Rattle.families.specs.declared.Ret.{Ret}
-use Rattle.values.specs.declared.refusal.Check.TheVariants.{Clear}
-use Rattle.families.specs.declared.placing.Outcome.{Outcome}
-use Rattle.families.specs.declared.placing.Outcome.TheVariants.{Pending, Returned}
 use Rattle.stepping.specs.declared.histories.Operation.{Operation}
 use Rattle.stepping.specs.declared.histories.History.{History}
 use Rattle.recording.specs.declared.linearizability.LinearizabilityTester.{LinearizabilityTester}
@@ -45,14 +42,14 @@ each_fit k (o ∷ os) w =
 
 -- a return of the object's own
 
-answered_own : (k : Kind) (o : Outcome) (r : Ret) → outcome_fits k o ≡ true → o ≡ Returned r → ret_belongs k r ≡ Clear
+answered_own : (k : Kind) (o : Option Ret) (r : Ret) → outcome_fits k o ≡ true → o ≡ Some r → ret_belongs k r ≡ Ok tt
 unfolding outcome_fits
-answered_own k o r e z = (clear_yes (ret_belongs k r)).0 (subst (λ (x : Outcome). outcome_fits k x ≡ true) z e)
+answered_own k o r e z = (clear_yes (ret_belongs k r)).0 (subst (λ (x : Option Ret). outcome_fits k x ≡ true) z e)
 
-own_answered : (k : Kind) (o : Outcome) → ((r : Ret) → o ≡ Returned r → ret_belongs k r ≡ Clear) → outcome_fits k o ≡ true
+own_answered : (k : Kind) (o : Option Ret) → ((r : Ret) → o ≡ Some r → ret_belongs k r ≡ Ok tt) → outcome_fits k o ≡ true
 unfolding outcome_fits
-own_answered k Pending w = refl
-own_answered k (Returned r) w = (clear_yes (ret_belongs k r)).1 (w r refl)
+own_answered k None w = refl
+own_answered k (Some r) w = (clear_yes (ret_belongs k r)).1 (w r refl)
 
 -- no operation of a thread
 

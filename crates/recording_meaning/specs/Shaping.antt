@@ -1,6 +1,6 @@
 -- A history in shape reads as rows in shape, which hold as many operations as it counts.
 use Prim.Native.Nat.{ℕ, suc, ◌+◌, ◌<◌}
-use Rattle.std.specs.Prelude.{◌≡◌, Bool, length, get_or, eqb, ltb}
+use Rattle.std.specs.Prelude.{◌≡◌, Bool, length, get_or, eqb, ltb, Option, Some, None}
 use Rattle.std.proofs.Math.Path.{refl, ap}
 use Rattle.std.proofs.Common.{sym, ◌∙◌, subst, eqb-true, ltb-true, ltb-false}
 use Rattle.std.proofs.Math.Bool.{true, false, cond}
@@ -14,8 +14,6 @@ use Rattle.values.specs.Value.{pick}
 use Rattle.values.specs.Sizes.{threads}
 use Rattle.families.specs.Families.{families}
 use Rattle.families.specs.declared.Kind.{Kind}
-use Rattle.families.specs.declared.placing.Outcome.{Outcome}
-use Rattle.families.specs.declared.placing.Outcome.TheVariants.{Pending, Returned}
 use Rattle.stepping.specs.declared.histories.Operation.{Operation}
 use Rattle.stepping.specs.declared.histories.History.{History}
 use Rattle.stepping.specs.Record.{held, is_pending}
@@ -25,6 +23,7 @@ use Rattle.recording_meaning.specs.Threads.{held_none, held_in}
 use Rattle.recording_meaning.specs.Parts.{pick_left, pick_right, operation_parts, Parts}
 use Rattle.recording_meaning.specs.Exchanges.{last_first, last_rest}
 use Rattle.recording_meaning.specs.Rowing.{rows_many, row_is}
+use Rattle.families.specs.declared.Ret.{Ret}
 
 module _ (needs : ℕ → List ℕ) where
   -- a row in shape
@@ -44,10 +43,10 @@ module _ (needs : ℕ → List ℕ) where
   shaped_row i t [] e = empty
   shaped_row i t (o ∷ os) e = go (eqb o.thread t) refl (shaped_row (suc i) t os (last_rest o os e))
     where
-      first : (c : Outcome) → pick (is_pending c) (none_of o.thread os) true ≡ true → o.thread ≡ t → Shaped families (of_thread t (entries needs (suc i) os))
+      first : (c : Option Ret) → pick (is_pending c) (none_of o.thread os) true ≡ true → o.thread ≡ t → Shaped families (of_thread t (entries needs (suc i) os))
           → Shaped families (record { op = o.op; ret = return_in c; needs = needs i } ∷ of_thread t (entries needs (suc i) os))
-      first Pending g z s = rw (none_row (suc i) t os (subst (λ (u : ℕ). none_of u os ≡ true) z g)) (in_flight refl)
-      first (Returned r) g z s = completed_first refl s
+      first None g z s = rw (none_row (suc i) t os (subst (λ (u : ℕ). none_of u os ≡ true) z g)) (in_flight refl)
+      first (Some r) g z s = completed_first refl s
 
       go : (b : Bool) → eqb o.thread t ≡ b → Shaped families (of_thread t (entries needs (suc i) os))
           → Shaped families (cond b (entry_of o (needs i) ∷ of_thread t (entries needs (suc i) os)) (of_thread t (entries needs (suc i) os)))
@@ -61,11 +60,11 @@ module _ (needs : ℕ → List ℕ) where
   completed_row i t [] = refl
   completed_row i t (o ∷ os) = go (eqb o.thread t) o.outcome (completed_row (suc i) t os)
     where
-      go : (b : Bool) (c : Outcome) → completed_of families (of_thread t (entries needs (suc i) os)) ≡ count_done t os
+      go : (b : Bool) (c : Option Ret) → completed_of families (of_thread t (entries needs (suc i) os)) ≡ count_done t os
           → completed_of families (cond b (record { op = o.op; ret = return_in c; needs = needs i } ∷ of_thread t (entries needs (suc i) os))
           (of_thread t (entries needs (suc i) os))) ≡ pick (pick b (pick (is_pending c) false true) false) 1 0 + count_done t os
-      go true Pending e = omega arith
-      go true (Returned r) e = omega arith
+      go true None e = omega arith
+      go true (Some r) e = omega arith
       go false c e = omega arith
 
   -- how many there are

@@ -1,2 +1,4 @@
-// Specifications only: there is no code in this crate.
+// Specifications only: there is no code in this crate, but a trait without functions.
 #![tactic(auto)]
+
+pub mod as_rows;

@@ -1,32 +1,24 @@
-// What a line came to: a start, an event of which nothing is said, an answer that agrees or differs, none of these.
-// By number, as the lists are: what is built of enums is dearer to check.
-use lists::fields::{NONE, natural};
+// What a line came to.
 
-pub const STARTED: u64 = 0;
-
-pub const FED: u64 = 1;
-
-pub const AGREES: u64 = 2;
-
-pub const DIFFERS: u64 = 3;
-
-pub const UNREADABLE: u64 = 4;
-
-pub fn judged(agrees: bool) -> u64 {
-    if agrees {
-        return AGREES;
-    }
-    DIFFERS
+// An answer to one of a list's three calls on one of its three groups, by their places in the tally, and whether the port
+// agrees with it.
+#[derive(Clone, Copy)]
+pub struct Answered {
+    pub group: usize,
+    pub call: usize,
+    pub agrees: bool,
 }
 
-// The family of what lives on after a line: that of a new start, and none after a line that can't be read, so that
-// nothing is asked up to the next start.
-pub fn family_after(came: u64, family: u64, numbers: &[u64]) -> u64 {
-    if came == STARTED {
-        return natural(numbers, 1);
-    }
-    if came == UNREADABLE {
-        return NONE;
-    }
-    family
+#[derive(Clone, Copy)]
+pub enum Came {
+    Started,
+    // An event of which the list says nothing.
+    Fed,
+    Answered(Answered),
+}
+
+// A list that is gone through line by line. What a line starts lives on up to the next line that starts anew.
+pub trait Compare {
+    // What the port says to a line, compared with what the line says; nothing where it can't be read.
+    fn compare(&mut self, line: &[i64]) -> Option<Came>;
 }

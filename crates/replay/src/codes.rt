@@ -1,39 +1,18 @@
-// Operations and returns of a line, and returns compared with those of a line.
-use families::codes::{op_from, ret_coded, ret_from};
+// Steps of a line, and returns compared with those of a line.
+use families::family::Family;
 use families::{Op, Ret};
-use lists::codes::{carried_at, op_at, ret_at};
-use lists::fields::{from, natural};
-use lists::starts::kind_of;
+use lists::codes::{op_at, ret_at, ret_coded_at};
+use lists::fields::from;
+use values::coded::Coded;
 
-// An operation and its return; where it is not good there is none.
-#[derive(Clone, Copy)]
-pub struct Step {
-    pub good: bool,
-    pub op: Op,
-    pub ret: Ret,
-}
-
-// OP V RET RN RV
-pub fn step_at(family: u64, fields: &[u64]) -> Step {
-    let invoked = op_at(family, fields);
-    let returned = ret_at(family, from(fields, 2));
-    let good = invoked.good && returned.good;
-    let kind = kind_of(family);
-    let told = invoked.coded;
-    let answered = returned.coded;
-    let op = op_from(kind, told);
-    let ret = ret_from(kind, answered);
-    Step { good, op, ret }
+// OP V RET RN RV: an operation and its return.
+pub fn step_at(family: Family, fields: &[i64]) -> Option<(Op, Ret)> {
+    let op = op_at(Some(family), fields)?;
+    let ret = ret_at(Some(family), from(fields, 2))?;
+    Some((op, ret))
 }
 
 // Whether a return is the one that RET RN RV say.
-pub fn is_said(ret: Ret, family: u64, fields: &[u64]) -> bool {
-    let coded = ret_coded(ret);
-    if coded.number as u64 != natural(fields, 0) {
-        return false;
-    }
-    if coded.count as u64 != natural(fields, 1) {
-        return false;
-    }
-    coded.word as u64 == carried_at(family, fields)
+pub fn is_said(ret: Ret, family: Family, fields: &[i64]) -> bool {
+    ret_coded_at(Some(family), fields) == Some(Coded::from(ret))
 }

@@ -1,9 +1,8 @@
 // The list of calls on corpus files: each line is one call of the host, made and compared with what the list says
 // of it.
-use crate::came;
-use crate::came::judged;
-use lists::bytes::{lay, part};
-use lists::fields::{first, fits, from, narrow, natural, wide};
+use crate::came::{Answered, Came, Compare};
+use arrayvec::ArrayVec;
+use lists::fields::{all_of, from, number_at, wide};
 use lists::lines::LONGEST;
 
 // The most zeros at the end of a file, room for the longest file, and for the longest buffer.
@@ -19,158 +18,100 @@ const ANSWER: usize = 79;
 const UNUSED: u8 = 255;
 
 // The verdict's number where the file is refused.
-const REFUSED: u64 = 4;
+const REFUSED: u8 = 4;
 
-// What a buffer holds at a place before the call.
-fn marker(place: usize) -> u8 {
-    (100 + place % 100) as u8
-}
-
+// A buffer before the call: a number of its own at each place.
 fn marked() -> [u8; ROOM] {
-    let mut buffer = [0u8; ROOM];
-    let mut i = 0;
-    while i < ROOM {
-        buffer[i] = marker(i);
-        i += 1;
+    let mut buffer = [0; ROOM];
+    for (byte, marker) in buffer.iter_mut().zip(100..200) {
+        *byte = marker;
     }
     buffer
 }
 
-// Storage for a file, of zeros. Handed out by a function, so that only its length is known where it is lent.
-fn blank() -> [u8; FILE] {
-    [0; FILE]
+// A call's number, and the bytes that it writes where that is 0, up to the thread numbers that are unused.
+#[derive(Drop)]
+struct Said {
+    number: Option<u32>,
+    written: ArrayVec<u8, ANSWER>,
 }
 
-// Whether a buffer may hold this byte at a place after a call that has to return this number and to write
-// these bytes, up to the thread numbers that are unused.
-fn is_due(byte: u8, place: usize, number: u64, written: &[u64]) -> bool {
-    if number == 0 {
-        if place < written.len() {
-            return natural(written, place) == byte as u64;
-        }
-        if place < ANSWER {
-            return byte == UNUSED;
-        }
+// R k a1 … ak to the end of the line
+fn said_at(fields: &[i64]) -> Option<Said> {
+    let written = all_of(from(fields, 2))?;
+    if number_at(fields, 1) != Some(written.len()) {
+        return None;
     }
-    byte == marker(place)
+    let number = number_at(fields, 0);
+    Some(Said { number, written })
 }
 
-fn holds(buffer: &[u8; ROOM], number: u64, written: &[u64]) -> bool {
-    let mut i = 0;
-    while i < ROOM {
-        let byte = buffer[i];
-        if is_due(byte, i, number, written) {
-            i += 1;
-        } else {
-            return false;
-        }
-    }
-    true
-}
-
-// The call, with as much of the buffer as there is to be. It stands alone, since all that is done where its promise
-// is known is dearer to check.
-fn call(file: &[u8], model: u32, budget: u64, buffer: &mut [u8], room: usize) -> u32 {
-    if room <= buffer.len() {
-        return host::kilteshva_judge(file, model, budget, &mut buffer[0..room]);
-    }
-    u32::MAX
-}
-
-// MODEL HIGH LOW ROOM: whether the call on the file comes to what is said, R k a1 … ak.
-fn comes_to(file: &[u8], fields: &[u64], said: &[u64]) -> bool {
-    let model = narrow(natural(fields, 0));
-    let budget = wide(natural(fields, 1), natural(fields, 2));
-    let number = natural(said, 0);
-    let mut buffer = marked();
-    let given = call(
-        file,
-        model,
-        budget,
-        &mut buffer,
-        natural(fields, 3) as usize,
-    );
-    given as u64 == number && holds(&buffer, number, from(said, 2))
-}
-
-// MODEL HIGH LOW ROOM: whether there can be such a call.
-fn is_call(fields: &[u64]) -> bool {
-    if fits(natural(fields, 0)) {
-        if fits(natural(fields, 1)) {
-            if fits(natural(fields, 2)) {
-                return natural(fields, 3) <= ROOM as u64;
+impl Said {
+    // What a buffer has to hold after such a call.
+    fn due(&self) -> [u8; ROOM] {
+        let mut due = marked();
+        if self.number == Some(0) {
+            for byte in due.iter_mut().take(ANSWER) {
+                *byte = UNUSED;
+            }
+            for (byte, &written) in due.iter_mut().zip(self.written.as_slice()) {
+                *byte = written;
             }
         }
+        due
     }
-    false
-}
 
-// R k a1 … ak: whether there can be such an answer.
-fn is_answer(said: &[u64]) -> bool {
-    let count = natural(said, 1);
-    if count <= ANSWER as u64 {
-        if said.len() as u64 == 2 + count {
-            let mut answer = [0; ANSWER];
-            return lay(from(said, 2), &mut answer);
+    // What is said of the call: a capture is judged, the file is refused, or the call is; as a place in the tally, where
+    // three calls of any list have theirs.
+    fn outcome(&self) -> usize {
+        match (self.number, self.written.as_slice()) {
+            (Some(0), [REFUSED, ..]) => 1,
+            (Some(0), _) => 0,
+            _ => 2,
         }
     }
-    false
 }
 
-// R k a1 … ak
-fn said_at(fields: &[u64]) -> &[u64] {
-    from(from(fields, 6), natural(fields, 5) as usize)
+// A file: these bytes, and so many zeros.
+fn file_of(bytes: &[i64], zeros: usize) -> Option<ArrayVec<u8, FILE>> {
+    if zeros > ZEROS {
+        return None;
+    }
+    let mut file: ArrayVec<u8, FILE> = all_of(bytes)?;
+    for _ in 0..zeros {
+        file.try_push(0).ok()?;
+    }
+    Some(file)
 }
 
-// The length of a file of so many bytes and zeros; past the storage where there are too many.
-fn end_of(bytes: usize, zeros: u64) -> usize {
-    if bytes <= LONGEST {
-        if zeros <= ZEROS as u64 {
-            return bytes + zeros as usize;
-        }
-    }
-    FILE + 1
+// MODEL HIGH LOW ROOM Z n f1 … fn R k a1 … ak
+fn answered_at(line: &[i64]) -> Option<Answered> {
+    let model: u32 = number_at(line, 0)?;
+    let high: u32 = number_at(line, 1)?;
+    let low: u32 = number_at(line, 2)?;
+    let budget = wide(u64::from(high), u64::from(low));
+    let room: usize = number_at(line, 3)?;
+    let zeros: usize = number_at(line, 4)?;
+    let count: usize = number_at(line, 5)?;
+    let (bytes, rest) = from(line, 6).split_at_checked(count)?;
+    let said = said_at(rest)?;
+    let file = file_of(bytes, zeros)?;
+    let mut buffer = marked();
+    let answer = buffer.get_mut(..room)?;
+    let number = host::kilteshva_judge(file.as_slice(), model, budget, answer);
+    Some(Answered {
+        group: (model as usize).min(2),
+        call: said.outcome(),
+        agrees: Some(number) == said.number && buffer == said.due(),
+    })
 }
 
-// MODEL HIGH LOW ROOM Z n f1 … fn R k a1 … ak: whether it can be read.
-fn is_readable(fields: &[u64]) -> bool {
-    if is_call(fields) {
-        if natural(fields, 4) <= ZEROS as u64 {
-            return is_answer(said_at(fields));
-        }
-    }
-    false
-}
+#[derive(Clone, Copy, Default)]
+pub struct Files;
 
-pub fn compared(fields: &[u64]) -> u64 {
-    if is_readable(fields) {
-        let bytes = first(from(fields, 6), natural(fields, 5) as usize);
-        let mut storage = blank();
-        if lay(bytes, &mut storage) {
-            let length = end_of(bytes.len(), natural(fields, 4));
-            return judged(comes_to(part(&storage, length), fields, said_at(fields)));
-        }
+impl Compare for Files {
+    fn compare(&mut self, line: &[i64]) -> Option<Came> {
+        let answered = answered_at(line)?;
+        Some(Came::Answered(answered))
     }
-    came::UNREADABLE
-}
-
-// The group of a line: the model that is asked for, or 2 where there is none.
-pub fn group(fields: &[u64]) -> u64 {
-    let model = natural(fields, 0);
-    if model <= 1 {
-        return model;
-    }
-    2
-}
-
-// What is said of the call: 0 where a capture is judged, 1 where the file is refused, 2 where the call is.
-pub fn outcome(fields: &[u64]) -> u64 {
-    let said = said_at(fields);
-    if natural(said, 0) != 0 {
-        return 2;
-    }
-    if natural(said, 2) == REFUSED {
-        return 1;
-    }
-    0
 }

@@ -9,28 +9,49 @@ mod came;
 mod codes;
 mod files;
 mod list;
+mod model;
 mod proposals;
 mod sequences;
 mod tally;
-mod telling;
 mod verdicts;
 
-use list::{EVENTS, FILES, HISTORIES, OBJECTS, ORDERS};
+use bare::Objects;
+use came::Compare;
+use files::Files;
+use list::List;
 use lists::input::read_full;
-use lists::telling::say;
+use lists::lines::Line;
+use sequences::{Asks, Sequences};
 use std::fs::File;
 use std::{fs, io};
-use tally::COUNTS;
-use telling::say_tally;
+use tally::Tally;
 
-// Room for the longest list.
+// Room for the longest list. Memory is fixed, so that reading a list can't want for it.
 const TEXT: usize = 2000000;
 
-fn counted(rt: &impl Print, list: u64, text: &[u8]) -> io::Result<[u64; COUNTS]> {
-    if list == OBJECTS {
-        return bare::replay(rt, text);
+// Goes through the lines of a list.
+fn replay<C: Compare + Drop>(rt: &impl Print, mut list: C, text: &[u8]) -> io::Result<Tally> {
+    let mut tally = Tally::default();
+    let mut line = Line::new();
+    for &byte in text {
+        line.feed(byte);
+        if byte == b'\n' {
+            let came = list.compare(line.numbers());
+            tally.count(rt, came)?;
+            line.clear();
+        }
     }
-    sequences::replay(rt, list, text)
+    Ok(tally)
+}
+
+fn counted(rt: &impl Print, list: List, text: &[u8]) -> io::Result<Tally> {
+    match list {
+        List::Objects => replay(rt, Objects::default(), text),
+        List::Events => replay(rt, Sequences::new(Asks::Events), text),
+        List::Histories => replay(rt, Sequences::new(Asks::Verdicts), text),
+        List::Orders => replay(rt, Sequences::new(Asks::Orders), text),
+        List::Files => replay(rt, Files, text),
+    }
 }
 
 // Handed out by a function, so that only its length is known where it is lent: the check would go through a literal
@@ -40,32 +61,38 @@ fn blank() -> [u8; TEXT] {
 }
 
 // The list that a file holds.
-fn read(rt: &HostRuntime, mut file: File, list: u64) -> io::Result<()> {
+fn read(rt: &HostRuntime, mut file: File, list: List) -> io::Result<()> {
     let mut text = blank();
     let length = read_full(&mut file, &mut text)?;
     if length == TEXT {
-        return say(rt, b"the list is too long\n");
+        return println!(rt; "the list is too long");
     }
-    let counts = counted(rt, list, &text[..length])?;
-    say_tally(rt, list, &counts)
+    let tally = counted(rt, list, &text[..length])?;
+    tally.print(rt, list)
 }
 
-fn replay(rt: &HostRuntime, list: u64, path: &str) -> io::Result<()> {
-    say(rt, path.as_bytes())?;
-    say(rt, b"\n")?;
+fn open(rt: &HostRuntime, list: List) -> io::Result<()> {
+    let path = list.path();
+    println!(rt; "{path}")?;
     match fs::open(rt, path) {
         Ok(file) => read(rt, file, list),
         Err(error) => {
             eprintln!(rt; "{path}: {error}")?;
-            say(rt, b"the list can't be opened\n")
+            println!(rt; "the list can't be opened")
         }
     }
 }
 
 fn main(rt: HostRuntime) -> io::Result<()> {
-    replay(&rt, OBJECTS, "objects.txt")?;
-    replay(&rt, EVENTS, "events.txt")?;
-    replay(&rt, HISTORIES, "histories.txt")?;
-    replay(&rt, ORDERS, "orders.txt")?;
-    replay(&rt, FILES, "files.txt")
+    let all = [
+        List::Objects,
+        List::Events,
+        List::Histories,
+        List::Orders,
+        List::Files,
+    ];
+    for list in all {
+        open(&rt, list)?;
+    }
+    Ok(())
 }

@@ -1,161 +1,139 @@
-// The lists of events, histories and orders, and that of files. Both testers live on from line to line, up to the next one
-// that starts anew.
-use crate::came::{family_after, judged};
-use crate::list::{EVENTS, FILES, HISTORIES};
-use crate::tally::{COUNTS, count_line};
-use crate::{came, files, proposals, verdicts};
-use lists::events;
-use lists::events::{BOTH, INVOKE, RETURN, START, event_at};
-use lists::fields::{NONE, from, natural};
-use lists::lines::{LONGEST, begun, whole, with_byte};
+// The lists of events, histories and orders, fed to both testers.
+use crate::came::{Answered, Came, Compare};
+use crate::{proposals, verdicts};
+use families::family::Family;
+use lists::events::{Event, event_at};
+use lists::fields::{from, number_at};
 use lists::starts::object_of;
-use std::io;
-use testers::{Answer, Testers};
+use testers::{Answers, Testers};
 
-fn is(answer: Answer, number: u8, len: u64) -> bool {
-    answer.number == number && answer.len as u64 == len
+// What a list asks: what each event is answered, or for verdicts on the events so far, or whether proposed orders of
+// them are legal.
+#[derive(Clone, Copy, PartialEq, Eq)]
+pub enum Asks {
+    Events,
+    Verdicts,
+    Orders,
 }
 
-fn both_are(a: Answer, b: Answer, number: u8, len: u64) -> bool {
-    is(a, number, len) && is(b, number, len)
+// Whether both testers gave that number, and then hold so many operations.
+fn both_are(answers: Answers, number: u8, len: Option<usize>) -> bool {
+    let a = answers.linearizability;
+    let b = answers.sequential;
+    (a.number, Some(a.len)) == (number, len) && (b.number, Some(b.len)) == (number, len)
 }
 
-// F n v1 … vn: testers of an object that they refuse are as good as none.
-fn taken(a: Answer, b: Answer, fields: &[u64]) -> u64 {
-    let made = object_of(natural(fields, 0), from(fields, 1));
-    if made.good && both_are(a, b, 0, 0) {
-        return came::STARTED;
-    }
-    came::UNREADABLE
+// Both testers, and whether the list has said Err of an event since they were made.
+#[derive(Clone, Copy)]
+struct Started {
+    family: Family,
+    testers: Testers,
+    has_refused: bool,
 }
 
-// The number of an event: 0 where the Rust said Ok, Y is 1. Where it said Err, 1 after an earlier one; else 5 for a return,
-// which then had nothing in flight, and 4 for an invoke, whose thread then was busy.
-fn number_due(ok: u64, refused: bool, lead: u64) -> u8 {
-    if ok == 1 {
-        return 0;
-    }
-    if refused {
-        return 1;
-    }
-    if lead == RETURN {
-        return 5;
-    }
-    4
-}
-
-// T, the event, Y L to the end of the line: the last two.
-fn said_at(numbers: &[u64]) -> &[u64] {
-    let lead = natural(numbers, 0);
-    if lead == INVOKE {
-        return from(numbers, 4);
-    }
-    if lead == RETURN {
-        return from(numbers, 5);
-    }
-    from(numbers, 7)
-}
-
-// What the testers answered to an event, compared with what the list of events says of it.
-fn heard(refused: bool, a: Answer, b: Answer, numbers: &[u64]) -> u64 {
-    let said = said_at(numbers);
-    let ok = natural(said, 0);
-    if 1 < ok {
-        return came::UNREADABLE;
-    }
-    if said.len() != 2 {
-        return came::UNREADABLE;
-    }
-    let number = number_due(ok, refused, natural(numbers, 0));
-    judged(both_are(a, b, number, natural(said, 1)))
-}
-
-// An event, fed to testers of an object of that family, which answered so.
-fn fed(list: u64, family: u64, refused: bool, a: Answer, b: Answer, numbers: &[u64]) -> u64 {
-    let event = event_at(family, numbers);
-    if event.good {
-        if list == EVENTS {
-            return heard(refused, a, b, numbers);
+impl Started {
+    // F n v1 … vn: testers of an object that they refuse are as good as none.
+    fn at(fields: &[i64]) -> Option<Self> {
+        let family = number_at(fields, 0)?;
+        let object = object_of(Some(family), from(fields, 1)).ok()?;
+        let answers = Testers::new(object);
+        if !both_are(answers, 0, Some(0)) {
+            return None;
         }
-        return came::FED;
+        Some(Started {
+            family,
+            testers: answers.testers,
+            has_refused: false,
+        })
     }
-    came::UNREADABLE
+
+    // An event, fed to both.
+    fn feed(&mut self, line: &[i64]) -> Option<(Event, Answers)> {
+        let event = event_at(Some(self.family), line)?;
+        let answers = event.feed(self.testers);
+        self.testers = answers.testers;
+        Some((event, answers))
+    }
+
+    // The number of an event of which the Rust said Err: 1 after an earlier one; else 5 for a return, which then had
+    // nothing in flight, and 4 for an invoke, whose thread then was busy. By number, which the testers' answers have too.
+    fn refusal_of(&self, event: Event) -> u8 {
+        match event {
+            _ if self.has_refused => 1,
+            Event::Return { .. } => 5,
+            Event::Invoke { .. } | Event::Both { .. } => 4,
+        }
+    }
+
+    // An event and Y L to the end of the line: Y is 1 where the Rust said Ok, and L how many operations there are then.
+    // The call, and whether both testers answer so.
+    fn hear(&mut self, line: &[i64]) -> Option<(usize, bool)> {
+        let (event, answers) = self.feed(line)?;
+        let (call, said) = match event {
+            Event::Invoke { .. } => (0, from(line, 4)),
+            Event::Return { .. } => (1, from(line, 5)),
+            Event::Both { .. } => (2, from(line, 7)),
+        };
+        let number = match said {
+            [0, _] => self.refusal_of(event),
+            [1, _] => 0,
+            _ => return None,
+        };
+        if number != 0 {
+            self.has_refused = true;
+        }
+        let agrees = both_are(answers, number, number_at(said, 1));
+        Some((call, agrees))
+    }
 }
 
-// Whether a line asks about the events so far, or about a file: it is no event then.
-fn is_question(list: u64, lead: u64) -> bool {
-    if list == FILES {
-        return true;
-    }
-    list != EVENTS && lead == BOTH
+#[derive(Clone, Copy)]
+pub struct Sequences {
+    asks: Asks,
+    started: Option<Started>,
 }
 
-// The answer to a question, compared.
-fn asked(list: u64, testers: Testers, family: u64, numbers: &[u64]) -> u64 {
-    if list == FILES {
-        return files::compared(numbers);
+impl Sequences {
+    pub fn new(asks: Asks) -> Self {
+        Sequences {
+            asks,
+            started: None,
+        }
     }
-    if family == NONE {
-        return came::UNREADABLE;
-    }
-    if list == HISTORIES {
-        return verdicts::compared(testers, family, from(numbers, 1));
-    }
-    proposals::compared(testers, from(numbers, 1))
 }
 
-// What a line with an object or an event came to, of testers that answered so.
-fn told(list: u64, family: u64, refused: bool, a: Answer, b: Answer, numbers: &[u64]) -> u64 {
-    if natural(numbers, 0) == START {
-        return taken(a, b, from(numbers, 1));
-    }
-    if family == NONE {
-        return came::UNREADABLE;
-    }
-    fed(list, family, refused, a, b, numbers)
-}
-
-// Whether the list has said Err of an event since the last start.
-fn refused_after(refused: bool, numbers: &[u64]) -> bool {
-    if natural(numbers, 0) == START {
-        return false;
-    }
-    refused || natural(said_at(numbers), 0) == 0
-}
-
-pub fn replay(rt: &impl Print, list: u64, text: &[u8]) -> io::Result<[u64; COUNTS]> {
-    let mut counts = [0; COUNTS];
-    let mut line = [0; LONGEST];
-    let mut reading = begun();
-    let mut answers = events::begun(&line);
-    let mut family = NONE;
-    let mut refused = false;
-    let mut at = 0;
-    while at < text.len() {
-        let byte = text[at];
-        at += 1;
-        reading = with_byte(reading, byte, &mut line);
-        if byte == b'\n' {
-            let numbers = whole(reading, &line);
-            let mut came = came::UNREADABLE;
-            if is_question(list, natural(numbers, 0)) {
-                came = asked(list, answers.testers, family, numbers);
-            } else {
-                answers = events::after(answers, family, numbers);
-                came = told(
-                    list,
-                    family,
-                    refused,
-                    answers.linearizability,
-                    answers.sequential,
-                    numbers,
-                );
+impl Compare for Sequences {
+    // New testers, or an event or a question to those that there are. After a line that can't be read there are none, so
+    // that nothing can be asked up to the next start.
+    fn compare(&mut self, line: &[i64]) -> Option<Came> {
+        let started = self.started.take();
+        if let [0, fields @ ..] = line {
+            self.started = Some(Started::at(fields)?);
+            return Some(Came::Started);
+        }
+        let mut sequence = started?;
+        let family = sequence.family;
+        let (call, agrees) = match (self.asks, line) {
+            (Asks::Events, _) => sequence.hear(line)?,
+            (Asks::Verdicts, [3, fields @ ..]) => {
+                let (model, agrees) = verdicts::compared(sequence.testers, family, fields)?;
+                (model as usize, agrees)
             }
-            count_line(rt, &mut counts, list, came, family, numbers)?;
-            refused = refused_after(refused, numbers);
-            family = family_after(came, family, numbers);
-            reading = begun();
-        }
+            (Asks::Orders, [3, fields @ ..]) => {
+                let (model, agrees) = proposals::compared(sequence.testers, fields)?;
+                (model as usize, agrees)
+            }
+            _ => {
+                let _ = sequence.feed(line)?;
+                self.started = Some(sequence);
+                return Some(Came::Fed);
+            }
+        };
+        self.started = Some(sequence);
+        Some(Came::Answered(Answered {
+            group: family as usize,
+            call,
+            agrees,
+        }))
     }
-    Ok(counts)
 }

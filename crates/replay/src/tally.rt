@@ -1,125 +1,113 @@
-// What was compared, counted in an array. A list asks about three groups by three calls, by their numbers: the
-// families by what was called, or the models by what the call comes to.
-use crate::list::{EVENTS, FILES, OBJECTS};
-use crate::telling::name_line;
-use crate::{came, files};
-use lists::fields::natural;
-use std::io;
+// What was compared, counted.
+use crate::came::{Answered, Came};
+use crate::list::List;
+use std::{fmt, io};
 
-// Five counts to a group, and after the last group five of all lines.
-const EACH: u64 = 5;
-
-pub const ALL: u64 = 3;
-
-// Then the lines that differ or are unreadable.
-pub const COUNTS: usize = 21;
-
-// The counts of a group: answers to each of the three calls, and then these.
-pub const AGREED: u64 = 3;
-
-pub const ASKED: u64 = 4;
-
-// The first counts of all lines, and wrong ones.
-pub const LINES: u64 = 0;
-
-pub const STARTS: u64 = 1;
-
-pub const UNREADABLE: u64 = 2;
-
-pub const WRONG: u64 = 5;
-
-// Where it is counted; past the end where it is not.
-fn place_of(group: u64, what: u64) -> usize {
-    if group <= ALL {
-        if what <= WRONG {
-            return (group * EACH + what) as usize;
-        }
-    }
-    COUNTS
+// How many answers a list has, and with how many of them the port agrees.
+#[derive(Clone, Copy, Default)]
+struct Answers {
+    agreed: u64,
+    asked: u64,
 }
 
-pub fn count(counts: &[u64; COUNTS], group: u64, what: u64) -> u64 {
-    let place = place_of(group, what);
-    if place < COUNTS {
-        return counts[place];
+impl Answers {
+    fn count(&mut self, agrees: bool) {
+        count_one(&mut self.asked);
+        if agrees {
+            count_one(&mut self.agreed);
+        }
     }
-    0
+}
+
+impl fmt::Display for Answers {
+    fn fmt<W: fmt::Write>(&self, f: &mut fmt::Formatter<W>) -> fmt::Result {
+        write!(f, "{} of {} answers agree", self.agreed, self.asked)
+    }
+}
+
+// The answers of a group, and how many there are to each call.
+#[derive(Clone, Copy, Default)]
+struct Group {
+    calls: [u64; 3],
+    answers: Answers,
+}
+
+impl Group {
+    fn print(&self, rt: &impl Print, name: &str, calls: [&str; 3]) -> io::Result<()> {
+        let [first, second, third] = calls;
+        let [a, b, c] = self.calls;
+        print!(rt; "{name}: {a} {first}, ")?;
+        print!(rt; "{b} {second}, ")?;
+        println!(rt; "{c} {third}: {}", self.answers)
+    }
+}
+
+#[derive(Clone, Copy, Default)]
+pub struct Tally {
+    groups: [Group; 3],
+    answers: Answers,
+    lines: u64,
+    starts: u64,
+    unreadable: u64,
+    wrong: u64,
 }
 
 // One more, but for a count that no list reaches.
-fn more(counts: &mut [u64; COUNTS], group: u64, what: u64) {
-    let place = place_of(group, what);
-    if place < COUNTS {
-        let count = counts[place];
-        if count < u64::MAX {
-            counts[place] = count + 1;
+fn count_one(count: &mut u64) {
+    *count = count.saturating_add(1);
+}
+
+impl Tally {
+    // Lines that are named because they differ or are unreadable, at most.
+    const NAMED: u64 = 10;
+
+    // One line more, which is named if it is one of the first that are wrong.
+    pub fn count(&mut self, rt: &impl Print, came: Option<Came>) -> io::Result<()> {
+        count_one(&mut self.lines);
+        match came {
+            Some(Came::Started) => count_one(&mut self.starts),
+            Some(Came::Fed) => (),
+            Some(Came::Answered(answered)) => {
+                self.count_answer(answered);
+                if !answered.agrees {
+                    return self.name_line(rt, "differs");
+                }
+            }
+            None => {
+                count_one(&mut self.unreadable);
+                return self.name_line(rt, "unreadable");
+            }
+        }
+        Ok(())
+    }
+
+    fn count_answer(&mut self, answered: Answered) {
+        self.answers.count(answered.agrees);
+        if let Some(group) = self.groups.get_mut(answered.group) {
+            group.answers.count(answered.agrees);
+            if let Some(call) = group.calls.get_mut(answered.call) {
+                count_one(call);
+            }
         }
     }
-}
 
-// The group of a line with an answer.
-fn group_at(list: u64, family: u64, numbers: &[u64]) -> u64 {
-    if list == FILES {
-        return files::group(numbers);
-    }
-    family
-}
-
-// The call that is answered: by the number that begins the line, or by the model.
-fn call_at(list: u64, numbers: &[u64]) -> u64 {
-    if list == FILES {
-        return files::outcome(numbers);
-    }
-    if list == OBJECTS || list == EVENTS {
-        let lead = natural(numbers, 0);
-        if 0 < lead {
-            return lead - 1;
+    fn name_line(&mut self, rt: &impl Print, fault: &str) -> io::Result<()> {
+        count_one(&mut self.wrong);
+        if self.wrong <= Self::NAMED {
+            println!(rt; "line {}: {fault}", self.lines)?;
         }
+        Ok(())
     }
-    natural(numbers, 1)
-}
 
-// An answer to a call on a group.
-fn count_answer(counts: &mut [u64; COUNTS], came: u64, group: u64, call: u64) {
-    more(counts, group, call);
-    more(counts, group, ASKED);
-    more(counts, ALL, ASKED);
-    if came == came::AGREES {
-        more(counts, group, AGREED);
-        more(counts, ALL, AGREED);
+    // A line for each group, and one for the list.
+    pub fn print(&self, rt: &impl Print, list: List) -> io::Result<()> {
+        for (name, group) in list.groups().iter().zip(&self.groups) {
+            group.print(rt, name, list.calls())?;
+        }
+        print!(rt; "{} lines: ", self.lines)?;
+        if let Some(started) = list.starts() {
+            print!(rt; "{} {started}, ", self.starts)?;
+        }
+        println!(rt; "{}, {} unreadable", self.answers, self.unreadable)
     }
-}
-
-// One line more, and what it came to.
-pub fn count_line(
-    rt: &impl Print,
-    counts: &mut [u64; COUNTS],
-    list: u64,
-    came: u64,
-    family: u64,
-    numbers: &[u64],
-) -> io::Result<()> {
-    more(counts, ALL, LINES);
-    if came == came::STARTED {
-        more(counts, ALL, STARTS);
-        return Ok(());
-    }
-    if came == came::FED {
-        return Ok(());
-    }
-    if came == came::UNREADABLE {
-        more(counts, ALL, UNREADABLE);
-    } else {
-        count_answer(
-            counts,
-            came,
-            group_at(list, family, numbers),
-            call_at(list, numbers),
-        );
-    }
-    if came != came::AGREES {
-        more(counts, ALL, WRONG);
-        name_line(rt, counts, came)?;
-    }
-    Ok(())
 }

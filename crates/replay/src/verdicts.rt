@@ -1,173 +1,101 @@
 // The verdict on a history, of one of the judges, compared with what the list says of it: under a budget
 // that just covers the search, one that falls short of it by one attempt, and the largest.
-use crate::came;
-use crate::came::judged;
 use crate::codes::is_said;
-use families::codes::ret_coded;
-use families::{Ret, no_ret};
-use judging::answer::{Answer, NOBODY, Placed, number};
-use judging::{linearizability, sequential_consistency};
-use lists::fields::{first, from, natural};
+use crate::model::Model;
+use families::family::Family;
+use families::no_ret;
+use judging::answer::{Answer, NOBODY, Placed, Verdict};
+use lists::fields::{from, number_at};
 use testers::Testers;
 use values::sizes::OPERATIONS;
 
-// The numbers of the verdicts in document 01.
-const ORDER: u8 = 0;
+// A place of an order takes this many numbers: T OP V RET RN RV.
+const PLACE: usize = 6;
 
-const NO_ORDER: u8 = 1;
-
-const UNDECIDED: u8 = 2;
-
-const INVALID: u8 = 3;
-
-// K: what the Rust answered, as the number of a verdict: None on a valid history, an order, or None on an
-// invalid one. Any other number is none of them.
-fn verdict_at(fields: &[u64]) -> u8 {
-    let found = natural(fields, 2);
-    if found == 0 {
-        return NO_ORDER;
-    }
-    if found == 1 {
-        return ORDER;
-    }
-    if found == 2 {
-        return INVALID;
-    }
-    UNDECIDED
+// What a judge has to answer of an object of that family: the verdict, the attempts, and the places of an order.
+#[derive(Clone, Copy)]
+struct Due<'a> {
+    family: Family,
+    verdict: Verdict,
+    attempts: u64,
+    places: &'a [i64],
 }
 
-// n; no order has no places.
-fn length_at(order: &[u64]) -> u64 {
-    if order.len() == 0 {
-        return 0;
-    }
-    natural(order, 0)
+// A K, and for an order n and n times T OP V RET RN RV to the end of the line. K is what the Rust answered: None on a
+// valid history, an order, or None on an invalid one.
+fn due_at(family: Family, fields: &[i64]) -> Option<Due> {
+    let (verdict, places): (Verdict, &[i64]) = match from(fields, 1) {
+        [0] => (Verdict::NoOrder, &[]),
+        [1, order @ ..] => (Verdict::Order, places_at(order)?),
+        [2] => (Verdict::Invalid, &[]),
+        _ => return None,
+    };
+    Some(Due {
+        family,
+        verdict,
+        // What is no number is more than any judge answers, and differs.
+        attempts: number_at(fields, 0).unwrap_or(u64::MAX),
+        places,
+    })
 }
 
-// M A K: whether the line says a verdict of one of the judges, with an order exactly if there is one.
-fn is_readable(verdict: u8, fields: &[u64]) -> bool {
-    if 1 < natural(fields, 0) {
-        return false;
+// n, and n times T OP V RET RN RV.
+fn places_at(order: &[i64]) -> Option<&[i64]> {
+    let length: usize = number_at(order, 0)?;
+    let places = from(order, 1);
+    if length <= OPERATIONS && places.len() == PLACE * length {
+        Some(places)
+    } else {
+        None
     }
-    if verdict == ORDER {
-        let length = natural(fields, 3);
-        if length <= OPERATIONS as u64 {
-            return fields.len() as u64 == 4 + 6 * length;
-        }
-        return false;
-    }
-    if verdict == UNDECIDED {
-        return false;
-    }
-    fields.len() == 3
+}
+
+// T OP V RET RN RV
+fn is_placed(placed: Placed, family: Family, fields: &[i64]) -> bool {
+    number_at(fields, 0) == Some(placed.thread) && is_said(placed.ret, family, from(fields, 3))
 }
 
 // What stands behind an order.
-fn is_blank(ret: Ret) -> bool {
-    let coded = ret_coded(ret);
-    let blank = ret_coded(no_ret());
-    if coded.number != blank.number {
-        return false;
-    }
-    if coded.count != blank.count {
-        return false;
-    }
-    coded.word == blank.word
+fn is_blank(placed: Placed) -> bool {
+    placed.thread == NOBODY && placed.ret == no_ret()
 }
 
-// T OP V RET RN RV, where somebody stands at the place.
-fn is_placed(placed: Placed, somebody: bool, family: u64, fields: &[u64]) -> bool {
-    let ret = placed.ret;
-    if somebody {
-        if natural(fields, 0) == placed.thread as u64 {
-            return is_said(ret, family, from(fields, 3));
-        }
-        return false;
-    }
-    if placed.thread == NOBODY {
-        return is_blank(ret);
-    }
-    false
-}
-
-// n, and n times T OP V RET RN RV, where there is an order: just these places, and nobody behind them.
-fn are_placed(places: [Placed; OPERATIONS], family: u64, order: &[u64]) -> bool {
-    let length = length_at(order);
-    let mut i = 0;
-    while i < OPERATIONS {
-        let placed = places[i];
-        let at = 1 + 6 * i;
-        if is_placed(placed, (i as u64) < length, family, from(order, at)) {
-            i += 1;
-        } else {
-            return false;
+impl Due<'_> {
+    // What is due within a budget that falls short: so many attempts, and no verdict.
+    fn short(self, attempts: u64) -> Self {
+        Due {
+            family: self.family,
+            verdict: Verdict::Undecided,
+            attempts,
+            places: &[],
         }
     }
-    true
+
+    // Whether the answer is the one that is due, with just these places, and nobody behind them.
+    fn is(self, answer: Answer) -> bool {
+        let length = self.places.len() / PLACE;
+        let mut places = answer.order.iter().zip(self.places.chunks(PLACE));
+        answer.verdict == self.verdict
+            && answer.attempts == self.attempts
+            && answer.length == length
+            && places.all(|(&placed, fields)| is_placed(placed, self.family, fields))
+            && answer
+                .order
+                .iter()
+                .skip(length)
+                .all(|&placed| is_blank(placed))
+    }
 }
 
-fn is_answer(answer: Answer, verdict: u8, attempts: u64, family: u64, order: &[u64]) -> bool {
-    let said = answer.verdict;
-    let places = answer.order;
-    if number(said) != verdict {
-        return false;
-    }
-    if answer.attempts != attempts {
-        return false;
-    }
-    if answer.length as u64 != length_at(order) {
-        return false;
-    }
-    are_placed(places, family, order)
-}
-
-// Whether the judge of the model, 0 sequential or 1 linearizable, answers so within the budget.
-fn answers(
-    testers: Testers,
-    model: u64,
-    budget: u64,
-    verdict: u8,
-    attempts: u64,
-    family: u64,
-    order: &[u64],
-) -> bool {
-    if model == 0 {
-        let answer = sequential_consistency::judge(testers.sequential, budget);
-        return is_answer(answer, verdict, attempts, family, order);
-    }
-    let answer = linearizability::judge(testers.linearizability, budget);
-    is_answer(answer, verdict, attempts, family, order)
-}
-
-// With one attempt less the verdict is Undecided, and that many attempts were made.
-fn falls_short(testers: Testers, model: u64, attempts: u64, no_order: &[u64]) -> bool {
-    if attempts == 0 {
-        return true;
-    }
-    answers(
-        testers,
-        model,
-        attempts - 1,
-        UNDECIDED,
-        attempts - 1,
-        0,
-        no_order,
-    )
-}
-
-// M A K, and for an order n and n times T OP V RET RN RV.
-pub fn compared(testers: Testers, family: u64, fields: &[u64]) -> u64 {
-    let verdict = verdict_at(fields);
-    if is_readable(verdict, fields) {
-        let model = natural(fields, 0);
-        let attempts = natural(fields, 1);
-        let order = from(fields, 3);
-        if answers(testers, model, attempts, verdict, attempts, family, order) {
-            if answers(testers, model, u64::MAX, verdict, attempts, family, order) {
-                return judged(falls_short(testers, model, attempts, first(fields, 0)));
-            }
-        }
-        return came::DIFFERS;
-    }
-    came::UNREADABLE
+// M A K, and for an order n and n times T OP V RET RN RV: the model, and whether its judge answers so.
+pub fn compared(testers: Testers, family: Family, fields: &[i64]) -> Option<(Model, bool)> {
+    let model: Model = number_at(fields, 0)?;
+    let due = due_at(family, from(fields, 1))?;
+    let agrees = due.is(model.judge(testers, due.attempts))
+        && due.is(model.judge(testers, u64::MAX))
+        && match due.attempts.checked_sub(1) {
+            Some(fewer) => due.short(fewer).is(model.judge(testers, fewer)),
+            None => true,
+        };
+    Some((model, agrees))
 }

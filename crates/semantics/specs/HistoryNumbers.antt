@@ -1,7 +1,7 @@
 -- A history gives 9, 3 and 7 exactly when document 01 says: 9 for an object too deep, even where there are no steps, 3 and 7 where it comes to a
 -- step that gives them. What it leaves of an object that is not too deep is not too deep.
-use Rattle.std.specs.Prelude.{ℕ, ◌≡◌, refl, ◌↔◌, List, [], ◌∷◌}
-use Rattle.std.proofs.Common.{ap, inl, inr, ⊎_elim, arith}
+use Rattle.std.specs.Prelude.{ℕ, ◌≡◌, refl, ◌↔◌, List, [], ◌∷◌, Bool, true, false, Result, Ok, Err}
+use Rattle.std.proofs.Common.{ap, inl, inr, ⊎_elim}
 use Rattle.values.specs.Checks.{number_of}
 use Rattle.families.specs.Refusals.{shape_check}
 use Rattle.families.specs.BareRefusals.{TooDeep, OtherStep, CrowdedStep, Refuses, deep_refused}
@@ -12,8 +12,7 @@ use Rattle.semantics.specs.NumbersExactly.{at_nine, at_none, step_numbers}
 use Rattle.semantics.specs.Shapes.{step_shaped}
 use Rattle.semantics.specs.Histories.{Turn, onward, taken, history_of}
 use Rattle.semantics.specs.HistoriesExactly.{step_at, ComesTo, comes_now, comes_later, comes_first, comes_nowhere}
-use Rattle.semantics.specs.declared.Said.{Said}
-use Rattle.semantics.specs.declared.Said.TheVariants.{Yes, No, Refused}
+use Rattle.values.specs.declared.refusal.Refusal.{Refusal}
 
 -- A turn that draws 3, and one that draws 7.
 
@@ -43,10 +42,10 @@ module _ (D E F G R S : Type 0) (d : D ↔ E) (f : F ↔ G) (r : R ↔ S) where
 -- a step that is no yes is where the history comes to, and after a yes it is where the rest comes to
 
 module _ (P : Object → Turn → Type 0) (o : Object) (t : Turn) (ts : List Turn) where
-  here : ((step_at o t).said ≡ Yes → ⊥) → P o t ↔ ComesTo P o (t ∷ ts)
+  here : ((step_at o t).said ≡ Ok true → ⊥) → P o t ↔ ComesTo P o (t ∷ ts)
   here n = (comes_now P o t ts, λ c. ⊎_elim (λ p. p) (λ y. absurd (n y.0)) (comes_first P o t ts c))
 
-  further : (step_at o t).said ≡ Yes → ¬ P o t → ComesTo P (step_at o t).object ts ↔ ComesTo P o (t ∷ ts)
+  further : (step_at o t).said ≡ Ok true → ¬ P o t → ComesTo P (step_at o t).object ts ↔ ComesTo P o (t ∷ ts)
   further y n = (comes_later P o t ts y, λ c. ⊎_elim (λ p. absurd (n p)) (λ z. z.1) (comes_first P o t ts c))
 
 abbrev Counted : Object → List Turn → ℕ → Type 0
@@ -60,22 +59,22 @@ taken_numbers (t ∷ ts) o n = go (step_at o t).said refl (taken_numbers ts (ste
     shaped : ¬ TooDeep (step_at o t).object.kind
     shaped = step_shaped o t.op t.ret n
 
-    stops : ((step_at o t).said ≡ Yes → ⊥) → Counted o (t ∷ ts) (said_number (step_at o t).said)
+    stops : ((step_at o t).said ≡ Ok true → ⊥) → Counted o (t ∷ ts) (said_number (step_at o t).said)
     stops y =
         renamed (TooDeep o.kind) (TooDeep o.kind) (OtherAt o t) (ComesTo OtherAt o (t ∷ ts)) (CrowdedAt o t) (ComesTo CrowdedAt o (t ∷ ts))
         (λ x. x, λ x. x) (here OtherAt o t ts y) (here CrowdedAt o t ts y)
         (said_number (step_at o t).said) (step_numbers o t.op t.ret)
 
-    go : (s : Said) → (step_at o t).said ≡ s → Counted (step_at o t).object ts (said_number (taken ts (step_at o t).object).said)
+    go : (s : Result Bool Refusal) → (step_at o t).said ≡ s → Counted (step_at o t).object ts (said_number (taken ts (step_at o t).object).said)
         → Counted o (t ∷ ts) (said_number (onward s (step_at o t) (taken ts)).said)
-    go Yes e w =
+    go (Ok true) e w =
         let y = (step_numbers o t.op t.ret).none.0 (ap said_number e) in
         renamed (TooDeep (step_at o t).object.kind) (TooDeep o.kind) (ComesTo OtherAt (step_at o t).object ts) (ComesTo OtherAt o (t ∷ ts))
         (ComesTo CrowdedAt (step_at o t).object ts) (ComesTo CrowdedAt o (t ∷ ts))
         (λ x. absurd (shaped x), λ x. absurd (n x)) (further OtherAt o t ts e y.1) (further CrowdedAt o t ts e y.2)
         (said_number (taken ts (step_at o t).object).said) w
-    go No e w = stops (λ y. let z : ◌≡◌ {A = ℕ} 0 1 = cc in omega arith)
-    go (Refused r) e w = stops (λ y. let z : ◌≡◌ {A = ℕ} 0 1 = cc in omega arith)
+    go (Ok false) e w = stops (λ y. cc)
+    go (Err r) e w = stops (λ y. cc)
 
 pub history_numbers : (o : Object) (ts : List Turn)
     → Numbered (said_number (history_of o ts).said) (TooDeep o.kind) (ComesTo OtherAt o ts) (ComesTo CrowdedAt o ts)
@@ -93,11 +92,11 @@ taken_shaped (t ∷ ts) o n =
     let shaped = step_shaped o t.op t.ret n in
     go (step_at o t).said shaped (taken_shaped ts (step_at o t).object shaped)
   where
-    go : (s : Said) → ¬ TooDeep (step_at o t).object.kind → ¬ TooDeep (taken ts (step_at o t).object).object.kind
+    go : (s : Result Bool Refusal) → ¬ TooDeep (step_at o t).object.kind → ¬ TooDeep (taken ts (step_at o t).object).object.kind
         → ¬ TooDeep (onward s (step_at o t) (taken ts)).object.kind
-    go Yes shaped rest = rest
-    go No shaped rest = shaped
-    go (Refused r) shaped rest = shaped
+    go (Ok true) shaped rest = rest
+    go (Ok false) shaped rest = shaped
+    go (Err r) shaped rest = shaped
 
 pub history_shaped : (o : Object) (ts : List Turn) → ¬ TooDeep o.kind → ¬ TooDeep (history_of o ts).object.kind
 unfolding history_of

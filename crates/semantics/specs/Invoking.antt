@@ -1,5 +1,5 @@
 -- `invoke` does what the abstract object does, with the returns that are right there, and leaves an object in shape.
-use Rattle.std.specs.Prelude.{◌≡◌, length}
+use Rattle.std.specs.Prelude.{◌≡◌, length, Ok}
 use Rattle.std.proofs.Math.Path.{ap}
 use Rattle.std.proofs.Common.{◌∙◌}
 use Rattle.values.specs.Sizes.{room}
@@ -12,10 +12,8 @@ use Rattle.families.specs.declared.Kind.{Kind}
 use Rattle.families.specs.declared.Object.{Object}
 use Rattle.families.specs.declared.Op.{Op}
 use Rattle.families.specs.declared.Ret.{Ret}
-use Rattle.values.specs.declared.refusal.Check.TheVariants.{Clear}
 use Rattle.semantics.specs.Calls.{answer_by, right_by, left_by, invoke_of}
 use Rattle.semantics.specs.Clear.{InShape, InvokeClear, invoke_clear}
-use Rattle.semantics.specs.declared.Answer.TheVariants.{Returned}
 
 -- what an object holds
 abbrev pub holds : Object → State
@@ -23,7 +21,7 @@ holds o = state_of o.kind o.items
 
 -- the object of the call, where it is not refused
 module _ (o : Object) (op : Op) (clear : InvokeClear o.kind op) where
-  pub invoke_answers_by : (invoke_of o op).answer ≡ Returned (answer_by o op)
+  pub invoke_answers_by : (invoke_of o op).answer ≡ Ok (answer_by o op)
   unfolding invoke_of
   invoke_answers_by = rw ((invoke_clear o.kind op).1 clear)
 
@@ -33,10 +31,10 @@ module _ (o : Object) (op : Op) (clear : InvokeClear o.kind op) where
 
   module _ (full : length o.items ≡ room) where
     -- what it answers
-    pub invoke_answers : (invoke_of o op).answer ≡ Returned (answers (holds o) op)
+    pub invoke_answers : (invoke_of o op).answer ≡ Ok (answers (holds o) op)
     unfolding answer_by
     invoke_answers =
-        invoke_answers_by ∙ ap Returned (placing_answers o.items full o.kind op clear.own (held_of o.kind) ∙ rw (kind_held o.kind))
+        invoke_answers_by ∙ ap Ok (placing_answers o.items full o.kind op clear.own (held_of o.kind) ∙ rw (kind_held o.kind))
 
     -- and what it leaves
     pub invoke_leaves : holds (invoke_of o op).object ≡ after (holds o) op
@@ -47,12 +45,12 @@ module _ (o : Object) (op : Op) (clear : InvokeClear o.kind op) where
         ∙ rw (kind_held o.kind)
 
 -- which returns are right
-pub right_holds : (o : Object) (op : Op) (ret : Ret) → length o.items ≡ room → op_belongs o.kind op ≡ Clear → right_by o op ret ≡ right (holds o) op ret
+pub right_holds : (o : Object) (op : Op) (ret : Ret) → length o.items ≡ room → op_belongs o.kind op ≡ Ok tt → right_by o op ret ≡ right (holds o) op ret
 right_holds o op ret full own =
     placing_right o.items full o.kind op own (held_of o.kind) ret
     ∙ ap (λ (k : Kind). right (state_of k o.items) op ret) (kind_held o.kind)
 
 -- calls keep objects in shape
-pub left_in_shape : (o : Object) (op : Op) → InShape o.kind → op_belongs o.kind op ≡ Clear → InShape (left_by o op).kind
+pub left_in_shape : (o : Object) (op : Op) → InShape o.kind → op_belongs o.kind op ≡ Ok tt → InShape (left_by o op).kind
 unfolding left_by
 left_in_shape o op h b = kept_shape o.kind op h b

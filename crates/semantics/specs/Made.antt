@@ -1,5 +1,5 @@
 -- The records that calls made are those of which `then` keeps what is said; any other gets 9 from it.
-use Rattle.std.specs.Prelude.{ℕ, ◌≡◌, refl, ◌↔◌, ◌≢◌, ◌⊎◌}
+use Rattle.std.specs.Prelude.{ℕ, ◌≡◌, refl, ◌↔◌, ◌≢◌, ◌⊎◌, Bool, true, false, Result, Ok, Err}
 use Rattle.std.proofs.Common.{sym, ap, ap₂, inl, inr, ⊎_elim, arith}
 use Rattle.std.proofs.Math.Path.{subst}
 use Rattle.values.specs.Checks.{number_of}
@@ -16,8 +16,6 @@ use Rattle.semantics.specs.Numbers.{said_number}
 use Rattle.semantics.specs.NumbersExactly.{number_tells, step_numbers, wrong_keeps}
 use Rattle.semantics.specs.Steps.{step_refused_keeps}
 use Rattle.semantics.specs.Then.{CouldSay, Could, could_begin, could_step, could_or_not, could_then, could_not_then, begun_deep, begun_shaped}
-use Rattle.semantics.specs.declared.Said.{Said}
-use Rattle.semantics.specs.declared.Said.TheVariants.{Yes, No, Refused as SRefused}
 use Rattle.semantics.specs.declared.Stepped.{Stepped}
 
 -- Calls made a record: `is_valid_history`, a step, or `then` of one that they made.
@@ -29,10 +27,10 @@ pub data Made : Stepped → Type 0 where
 could_next : (x : Stepped) (op : Op) (ret : Ret) → Could x → Could (then_of x op ret)
 could_next x op ret c = go x.said x.object c
   where
-    go : (s : Said) (o : Object) → CouldSay o.kind s → Could (then_of (stepped s o) op ret)
-    go Yes o c = subst Could (sym (could_then op ret Yes o c)) (could_step o op ret)
-    go No o c = subst Could (sym (could_then op ret No o c)) c
-    go (SRefused r) o c = subst Could (sym (could_then op ret (SRefused r) o c)) c
+    go : (s : Result Bool Refusal) (o : Object) → CouldSay o.kind s → Could (then_of (stepped s o) op ret)
+    go (Ok true) o c = subst Could (sym (could_then op ret (Ok true) o c)) (could_step o op ret)
+    go (Ok false) o c = subst Could (sym (could_then op ret (Ok false) o c)) c
+    go (Err r) o c = subst Could (sym (could_then op ret (Err r) o c)) c
 
 made_could : {x : Stepped} → Made x → Could x
 made_could (begun o) = could_begin o
@@ -41,13 +39,13 @@ made_could (next x op ret m) = could_next x op ret (made_could m)
 
 -- a record of each kind is one that calls make
 
-refused_made : (o : Object) (op : Op) (ret : Ret) (r : Refusal) → (step_of o op ret).said ≡ SRefused r → Made (stepped (SRefused r) o)
+refused_made : (o : Object) (op : Op) (ret : Ret) (r : Refusal) → (step_of o op ret).said ≡ Err r → Made (stepped (Err r) o)
 refused_made o op ret r e = subst Made (ap₂ stepped e (step_refused_keeps o op ret r e)) (step o op ret)
 
-could_made : (s : Said) (o : Object) → CouldSay o.kind s → Made (stepped s o)
+could_made : (s : Result Bool Refusal) (o : Object) → CouldSay o.kind s → Made (stepped s o)
 unfolding number_of
-could_made Yes o n = subst Made (begun_shaped o n) (begun o)
-could_made No o n =
+could_made (Ok true) o n = subst Made (begun_shaped o n) (begun o)
+could_made (Ok false) o n =
     let w = erring o.kind in
     subst Made
     (wrong_keeps o w.op w.ret
@@ -55,16 +53,16 @@ could_made No o n =
     (w.wrong o.items (held_of o.kind))
     w.keeps)
     (step o w.op w.ret)
-could_made (SRefused OtherFamily) o n =
+could_made (Err OtherFamily) o n =
     let w = other_op o.kind in
     let q = (erring o.kind).ret in
     refused_made o w.0 q OtherFamily (number_tells _ OtherFamily ((step_numbers o w.0 q).three.1 (n, inl w.1)))
-could_made (SRefused NoRoom) o f =
+could_made (Err NoRoom) o f =
     let w = crowding o.kind f in
     refused_made o w.op w.ret NoRoom
     (number_tells _ NoRoom ((step_numbers o w.op w.ret).seven.1 (full_shaped o.kind f, λ z. ⊎_elim (λ x. x w.own) (λ x. x w.own_ret) z, (f, w.wants, w.took))))
-could_made (SRefused StartTooDeep) o c = absurd c
-could_made (SRefused OutOfShape) o d = subst Made (begun_deep o d) (begun o)
+could_made (Err StartTooDeep) o c = absurd c
+could_made (Err OutOfShape) o d = subst Made (begun_deep o d) (begun o)
 
 -- The records that calls made are exactly those that they could have made.
 pub made_exactly : (x : Stepped) → Made x ↔ Could x
@@ -82,25 +80,25 @@ moved n q e = subst (λ (w : Stepped). said_number w.said ≡ n) q e
 
 module _ (x : Stepped) (op : Op) (ret : Ret) where
   -- A record that calls made goes on with the step where it says yes,
-  pub then_steps : Made x → x.said ≡ Yes → then_of x op ret ≡ step_of x.object op ret
+  pub then_steps : Made x → x.said ≡ Ok true → then_of x op ret ≡ step_of x.object op ret
   then_steps m e = go x.said x.object (made_could m) e
     where
-      go : (s : Said) (o : Object) → CouldSay o.kind s → s ≡ Yes → then_of (stepped s o) op ret ≡ step_of o op ret
-      go Yes o c e = could_then op ret Yes o c
-      go No o c e = absurd (let z : ◌≡◌ {A = ℕ} 0 1 = cc in omega arith)
-      go (SRefused r) o c e = absurd (let z : ◌≡◌ {A = ℕ} 0 1 = cc in omega arith)
+      go : (s : Result Bool Refusal) (o : Object) → CouldSay o.kind s → s ≡ Ok true → then_of (stepped s o) op ret ≡ step_of o op ret
+      go (Ok true) o c e = could_then op ret (Ok true) o c
+      go (Ok false) o c e = absurd cc
+      go (Err r) o c e = absurd cc
 
   -- else it stays as it is;
-  pub then_stays : Made x → x.said ≢ Yes → then_of x op ret ≡ x
+  pub then_stays : Made x → x.said ≢ Ok true → then_of x op ret ≡ x
   then_stays m n = go x.said x.object (made_could m) n
     where
-      go : (s : Said) (o : Object) → CouldSay o.kind s → s ≢ Yes → then_of (stepped s o) op ret ≡ stepped s o
-      go Yes o c n = absurd (n refl)
-      go No o c n = could_then op ret No o c
-      go (SRefused r) o c n = could_then op ret (SRefused r) o c
+      go : (s : Result Bool Refusal) (o : Object) → CouldSay o.kind s → s ≢ Ok true → then_of (stepped s o) op ret ≡ stepped s o
+      go (Ok true) o c n = absurd (n refl)
+      go (Ok false) o c n = could_then op ret (Ok false) o c
+      go (Err r) o c n = could_then op ret (Err r) o c
 
   -- and one that they did not make gets 9, with its object as it came.
-  pub then_made_up : ¬ Made x → then_of x op ret ≡ stepped (SRefused OutOfShape) x.object
+  pub then_made_up : ¬ Made x → then_of x op ret ≡ stepped (Err OutOfShape) x.object
   then_made_up n = could_not_then op ret x.said x.object (λ c. n ((made_exactly x).1 c))
 
   -- So it gives 9 exactly to a record that calls did not make, or of an object too deep,
@@ -108,10 +106,10 @@ module _ (x : Stepped) (op : Op) (ret : Ret) where
   unfolding number_of
   then_nine = (λ e. forth (made_or_not x) e, λ w. back (made_or_not x) w)
     where
-      deep : (s : Said) (o : Object) → CouldSay o.kind s → said_number (then_of (stepped s o) op ret).said ≡ 9 → TooDeep o.kind
-      deep Yes o c e = (step_numbers o op ret).nine.0 (moved 9 (could_then op ret Yes o c) e)
-      deep No o c e = absurd (omega (arith, moved 9 (could_then op ret No o c) e))
-      deep (SRefused r) o c e = subst (CouldSay o.kind) (number_tells (SRefused r) OutOfShape (moved 9 (could_then op ret (SRefused r) o c) e)) c
+      deep : (s : Result Bool Refusal) (o : Object) → CouldSay o.kind s → said_number (then_of (stepped s o) op ret).said ≡ 9 → TooDeep o.kind
+      deep (Ok true) o c e = (step_numbers o op ret).nine.0 (moved 9 (could_then op ret (Ok true) o c) e)
+      deep (Ok false) o c e = absurd (omega (arith, moved 9 (could_then op ret (Ok false) o c) e))
+      deep (Err r) o c e = subst (CouldSay o.kind) (number_tells (Err r) OutOfShape (moved 9 (could_then op ret (Err r) o c) e)) c
 
       forth : Made x ⊎ (¬ Made x) → said_number (then_of x op ret).said ≡ 9 → (¬ Made x) ⊎ TooDeep x.object.kind
       forth (inl m) e = inr (deep x.said x.object (made_could m) e)
@@ -120,13 +118,13 @@ module _ (x : Stepped) (op : Op) (ret : Ret) where
       made_up : ¬ Made x → said_number (then_of x op ret).said ≡ 9
       made_up n = ap (λ (y : Stepped). said_number y.said) (then_made_up n)
 
-      said : (s : Said) (o : Object) → CouldSay o.kind s → TooDeep o.kind → said_number (then_of (stepped s o) op ret).said ≡ 9
-      said Yes o c d = absurd (c d)
-      said No o c d = absurd (c d)
-      said (SRefused OtherFamily) o c d = absurd (c d)
-      said (SRefused NoRoom) o f d = absurd (full_shaped o.kind f d)
-      said (SRefused StartTooDeep) o c d = absurd c
-      said (SRefused OutOfShape) o c d = ap (λ (y : Stepped). said_number y.said) (could_then op ret (SRefused OutOfShape) o c)
+      said : (s : Result Bool Refusal) (o : Object) → CouldSay o.kind s → TooDeep o.kind → said_number (then_of (stepped s o) op ret).said ≡ 9
+      said (Ok true) o c d = absurd (c d)
+      said (Ok false) o c d = absurd (c d)
+      said (Err OtherFamily) o c d = absurd (c d)
+      said (Err NoRoom) o f d = absurd (full_shaped o.kind f d)
+      said (Err StartTooDeep) o c d = absurd c
+      said (Err OutOfShape) o c d = ap (λ (y : Stepped). said_number y.said) (could_then op ret (Err OutOfShape) o c)
 
       back : Made x ⊎ (¬ Made x) → (¬ Made x) ⊎ TooDeep x.object.kind → said_number (then_of x op ret).said ≡ 9
       back (inr n) w = made_up n
@@ -138,10 +136,10 @@ module _ (x : Stepped) (op : Op) (ret : Ret) where
   unfolding number_of
   then_seven e = go (made_or_not x)
     where
-      said : (s : Said) (o : Object) → CouldSay o.kind s → said_number (then_of (stepped s o) op ret).said ≡ 7 → Full o.kind
-      said Yes o c e = ((step_numbers o op ret).seven.0 (moved 7 (could_then op ret Yes o c) e)).2.0
-      said No o c e = absurd (omega (arith, moved 7 (could_then op ret No o c) e))
-      said (SRefused r) o c e = subst (CouldSay o.kind) (number_tells (SRefused r) NoRoom (moved 7 (could_then op ret (SRefused r) o c) e)) c
+      said : (s : Result Bool Refusal) (o : Object) → CouldSay o.kind s → said_number (then_of (stepped s o) op ret).said ≡ 7 → Full o.kind
+      said (Ok true) o c e = ((step_numbers o op ret).seven.0 (moved 7 (could_then op ret (Ok true) o c) e)).2.0
+      said (Ok false) o c e = absurd (omega (arith, moved 7 (could_then op ret (Ok false) o c) e))
+      said (Err r) o c e = subst (CouldSay o.kind) (number_tells (Err r) NoRoom (moved 7 (could_then op ret (Err r) o c) e)) c
 
       go : Made x ⊎ (¬ Made x) → Full x.object.kind
       go (inl m) = said x.said x.object (made_could m) e

@@ -1,21 +1,18 @@
 -- The numbers of document 01 that a bare call gives, and their order.
-use Rattle.std.specs.Prelude.{ℕ, ◌≡◌, ◌↔◌, ◌⊎◌}
+use Rattle.std.specs.Prelude.{ℕ, ◌≡◌, ◌↔◌, ◌⊎◌, Bool, Result, Ok, Err}
 use Rattle.values.specs.Checks.{number_of}
-use Rattle.semantics.specs.declared.Answer.{Answer}
-use Rattle.semantics.specs.declared.Answer.TheVariants.{Returned, Refused as ARefused}
-use Rattle.semantics.specs.declared.Said.{Said}
-use Rattle.semantics.specs.declared.Said.TheVariants.{Yes, No, Refused as SRefused}
+use Rattle.values.specs.declared.refusal.Refusal.{Refusal}
+use Rattle.families.specs.declared.Ret.{Ret}
 
 -- The number of an answer; 0 where nothing is refused.
 
-abbrev pub answer_number : Answer → ℕ
-answer_number (Returned ret) = 0
-answer_number (ARefused r) = number_of r
+abbrev pub answer_number : Result Ret Refusal → ℕ
+answer_number (Ok ret) = 0
+answer_number (Err r) = number_of r
 
-abbrev pub said_number : Said → ℕ
-said_number Yes = 0
-said_number No = 0
-said_number (SRefused r) = number_of r
+abbrev pub said_number : Result Bool Refusal → ℕ
+said_number (Ok b) = 0
+said_number (Err r) = number_of r
 
 -- For a bare step the order is 9, 3, 7: each line says that none before it applies.
 pub record Numbered (n : ℕ) (deep other full : Type 0) : Type 0 where

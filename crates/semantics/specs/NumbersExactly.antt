@@ -1,5 +1,5 @@
 -- `invoke` and a step give 9, 3 and 7 exactly when document 01 says, and a refusal hands the object back as it came.
-use Rattle.std.specs.Prelude.{ℕ, Bool, ◌⊎◌, eqb}
+use Rattle.std.specs.Prelude.{ℕ, Bool, ◌⊎◌, eqb, Result, Ok, Err}
 use Rattle.std.proofs.Math.Path.{◌≡◌, refl, ap₂}
 use Rattle.std.proofs.Common.{sym, ap, ◌∙◌, arith}
 use Rattle.std.proofs.Math.Bool.{true, false}
@@ -16,14 +16,9 @@ use Rattle.families.specs.declared.Op.{Op}
 use Rattle.families.specs.declared.Ret.{Ret}
 use Rattle.values.specs.declared.refusal.Refusal.{Refusal}
 use Rattle.values.specs.declared.refusal.Refusal.TheVariants.{OtherFamily, NoRoom, StartTooDeep, OutOfShape}
-use Rattle.values.specs.declared.refusal.Check.{Check}
-use Rattle.values.specs.declared.refusal.Check.TheVariants.{Clear, Refused}
 use Rattle.semantics.specs.Calls.{invoke_check, step_check, right_by, left_by, invoke_by, invoke_of, stepped, step_by, step_of}
 use Rattle.semantics.specs.Steps.{step_right, step_no_keeps}
 use Rattle.semantics.specs.Numbers.{answer_number, said_number, Numbered}
-use Rattle.semantics.specs.declared.Answer.TheVariants.{Refused as ARefused}
-use Rattle.semantics.specs.declared.Said.{Said}
-use Rattle.semantics.specs.declared.Said.TheVariants.{Yes, No, Refused as SRefused}
 
 module _ (deep other full : Type 0) where
   pub at_nine : deep → Numbered 9 deep other full
@@ -74,10 +69,10 @@ refusal_at_lem NoRoom = refl
 refusal_at_lem StartTooDeep = refl
 refusal_at_lem OutOfShape = refl
 
-pub number_tells : (s : Said) (r : Refusal) → said_number s ≡ number_of r → s ≡ SRefused r
-number_tells Yes r e = absurd ((not_event r).0 (sym e))
-number_tells No r e = absurd ((not_event r).0 (sym e))
-number_tells (SRefused q) r e = ap SRefused (sym (refusal_at_lem q) ∙ ap refusal_at e ∙ refusal_at_lem r)
+pub number_tells : (s : Result Bool Refusal) (r : Refusal) → said_number s ≡ number_of r → s ≡ Err r
+number_tells (Ok true) r e = absurd ((not_event r).0 (sym e))
+number_tells (Ok false) r e = absurd ((not_event r).0 (sym e))
+number_tells (Err q) r e = ap Err (sym (refusal_at_lem q) ∙ ap refusal_at e ∙ refusal_at_lem r)
 
 pub not_eight : {n : ℕ} {deep other full : Type 0} → Numbered n deep other full → n ≡ 8 → ⊥
 not_eight {n = n} w e = go w.only
@@ -90,23 +85,23 @@ not_eight {n = n} w e = go w.only
 
 -- the number of a check, and checks one after the other
 
-check_number : Check → ℕ
-check_number Clear = 0
-check_number (Refused r) = number_of r
+check_number : Result Unit Refusal → ℕ
+check_number (Ok tt) = 0
+check_number (Err r) = number_of r
 
-in_order_flat : (a b c : Check) → in_order a (in_order b c) ≡ in_order (in_order a b) c
+in_order_flat : (a b c : Result Unit Refusal) → in_order a (in_order b c) ≡ in_order (in_order a b) c
 unfolding in_order
-in_order_flat Clear b c = refl
-in_order_flat (Refused r) b c = refl
+in_order_flat (Ok tt) b c = refl
+in_order_flat (Err r) b c = refl
 
-module _ (r : Refusal) (P Q : Type 0) (a b : Check) where
+module _ (r : Refusal) (P Q : Type 0) (a b : Result Unit Refusal) where
   either_refused : Refuses r P a → Refuses r Q b → Refuses r (P ⊎ Q) (in_order a b)
   unfolding in_order
   either_refused (inl x) y = inl (rw x.0, inl x.1)
   either_refused (inr x) (inl y) = inl (rw x.0 y.0, inr y.1)
   either_refused (inr x) (inr y) = inr (rw x.0 y.0, λ z. ⊎_elim x.1 y.1 z)
 
-module _ (deep other full : Type 0) (a b c : Check) where
+module _ (deep other full : Type 0) (a b c : Result Unit Refusal) where
   in_turn : Refuses OutOfShape deep a → Refuses OtherFamily other b → (¬ other → Refuses NoRoom full c)
       → Numbered (check_number (in_order a (in_order b c))) deep other full
   unfolding in_order number_of check_number
@@ -120,10 +115,10 @@ module _ (deep other full : Type 0) (a b c : Check) where
 
 -- `invoke`: 9 for a depth over 96, 3 for an operation of another family, 7 for a Push on a stack of 96.
 module _ (o : Object) (op : Op) where
-  invoke_numbered : (c : Check) → answer_number (invoke_by c o op).answer ≡ check_number c
+  invoke_numbered : (c : Result Unit Refusal) → answer_number (invoke_by c o op).answer ≡ check_number c
   unfolding check_number
-  invoke_numbered Clear = refl
-  invoke_numbered (Refused r) = refl
+  invoke_numbered (Ok tt) = refl
+  invoke_numbered (Err r) = refl
 
   pub invoke_numbers : Numbered (answer_number (invoke_of o op).answer) (TooDeep o.kind) (OtherOp o.kind op) (Crowded o.kind op)
   unfolding invoke_of invoke_check
@@ -134,22 +129,22 @@ module _ (o : Object) (op : Op) where
       (deep_refused o.kind) (op_refused o.kind op) (room_refused o.kind op))
 
   -- every refusal hands the object back as it came
-  pub invoke_refused_keeps : (r : Refusal) → (invoke_of o op).answer ≡ ARefused r → (invoke_of o op).object ≡ o
+  pub invoke_refused_keeps : (r : Refusal) → (invoke_of o op).answer ≡ Err r → (invoke_of o op).object ≡ o
   unfolding invoke_of
   invoke_refused_keeps r e = go (invoke_check o.kind op) e
     where
-      go : (c : Check) → (invoke_by c o op).answer ≡ ARefused r → (invoke_by c o op).object ≡ o
-      go Clear e = absurd (let z : ◌≡◌ {A = ℕ} 0 1 = cc in omega arith)
-      go (Refused s) e = refl
+      go : (c : Result Unit Refusal) → (invoke_by c o op).answer ≡ Err r → (invoke_by c o op).object ≡ o
+      go (Ok tt) e = absurd cc
+      go (Err s) e = refl
 
 -- A step: 9 for a depth over 96, 3 for an operation or a return of another family, 7 for a Push with PushOk on a stack of 96.
 module _ (o : Object) (op : Op) (ret : Ret) where
-  step_numbered : (c : Check) → said_number (step_by c o op ret).said ≡ check_number c
+  step_numbered : (c : Result Unit Refusal) → said_number (step_by c o op ret).said ≡ check_number c
   unfolding check_number
-  step_numbered (Refused r) = refl
-  step_numbered Clear = judged (right_by o op ret) (leaves_wrong op ret)
+  step_numbered (Err r) = refl
+  step_numbered (Ok tt) = judged (right_by o op ret) (leaves_wrong op ret)
     where
-      judged : (b c : Bool) → said_number (pick b (stepped Yes (left_by o op)) (pick c (stepped No (left_by o op)) (stepped No o))).said ≡ 0
+      judged : (b c : Bool) → said_number (pick b (stepped (Ok true) (left_by o op)) (pick c (stepped (Ok false) (left_by o op)) (stepped (Ok false) o))).said ≡ 0
       judged true c = refl
       judged false true = refl
       judged false false = refl
@@ -166,19 +161,19 @@ module _ (o : Object) (op : Op) (ret : Ret) where
       (λ n. step_room_refused o.kind op ret (λ x. n (inl x))))
 
   -- a wrong return of which nothing is refused is a no; it changes nothing but for a Pop with PopOk
-  pub wrong_keeps : said_number (step_of o op ret).said ≡ 0 → right_by o op ret ≡ false → leaves_wrong op ret ≡ false → step_of o op ret ≡ stepped No o
+  pub wrong_keeps : said_number (step_of o op ret).said ≡ 0 → right_by o op ret ≡ false → leaves_wrong op ret ≡ false → step_of o op ret ≡ stepped (Ok false) o
   unfolding number_of
   wrong_keeps n w l = go (step_of o op ret).said refl
     where
-      go : (s : Said) → (step_of o op ret).said ≡ s → step_of o op ret ≡ stepped No o
-      go Yes e =
+      go : (s : Result Bool Refusal) → (step_of o op ret).said ≡ s → step_of o op ret ≡ stepped (Ok false) o
+      go (Ok true) e =
           let t : right_by o op ret ≡ true = ((step_right o op ret).0 e).1 in
-          absurd (let z : ◌≡◌ {A = ℕ} 0 1 = cc in omega arith)
-      go No e = ap₂ stepped e (step_no_keeps o op ret e l)
-      go (SRefused r) e = absurd ((not_event r).0 (sym (ap said_number e) ∙ n))
+          absurd cc
+      go (Ok false) e = ap₂ stepped e (step_no_keeps o op ret e l)
+      go (Err r) e = absurd ((not_event r).0 (sym (ap said_number e) ∙ n))
 
   -- a Push with another return on a stack of 96 is a no that changes nothing
-  pub untaken_no : Crowded o.kind op → ¬ OtherRet o.kind ret → ¬ TookRoom ret → step_of o op ret ≡ stepped No o
+  pub untaken_no : Crowded o.kind op → ¬ OtherRet o.kind ret → ¬ TookRoom ret → step_of o op ret ≡ stepped (Ok false) o
   untaken_no x own n =
       let w = push_wrong o.items (held_of o.kind) op ret x.1 n in
       wrong_keeps

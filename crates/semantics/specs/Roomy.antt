@@ -1,5 +1,5 @@
 -- An object with room for one operation more refuses none of its own, and does with it what the abstract object does.
-use Rattle.std.specs.Prelude.{ℕ, suc, ◌≡◌, Bool, ◌↔◌, length}
+use Rattle.std.specs.Prelude.{ℕ, suc, ◌≡◌, Bool, ◌↔◌, length, Ok}
 use Rattle.std.proofs.Math.Path.{refl, sym}
 use Rattle.std.proofs.Common.{ap, ◌∙◌}
 use Rattle.std.proofs.Math.Bool.{true, false}
@@ -15,19 +15,16 @@ use Rattle.families.specs.Bare.{left_room, right_belongs}
 use Rattle.families.specs.declared.Object.{Object}
 use Rattle.families.specs.declared.Op.{Op}
 use Rattle.families.specs.declared.Ret.{Ret}
-use Rattle.values.specs.declared.refusal.Check.TheVariants.{Clear}
 use Rattle.semantics.specs.Calls.{right_by, left_by, invoke_of, step_of}
 use Rattle.semantics.specs.Clear.{InvokeClear, StepClear}
 use Rattle.semantics.specs.Invoking.{holds, invoke_answers, invoke_leaves, invoke_leaves_by, right_holds}
 use Rattle.semantics.specs.Steps.{step_right, step_yes_left}
-use Rattle.semantics.specs.declared.Answer.TheVariants.{Returned}
-use Rattle.semantics.specs.declared.Said.TheVariants.{Yes}
 
 -- room for n more operations
 abbrev pub RoomFor : Object → ℕ → Type 0
 RoomFor o n = Room o.kind (held_of o.kind) n
 
-module _ (o : Object) (op : Op) (n : ℕ) (full : length o.items ≡ room) (own : op_belongs o.kind op ≡ Clear) (roomy : RoomFor o (suc n)) where
+module _ (o : Object) (op : Op) (n : ℕ) (full : length o.items ≡ room) (own : op_belongs o.kind op ≡ Ok tt) (roomy : RoomFor o (suc n)) where
   clear : InvokeClear o.kind op
   clear = record {
     in_shape = room_shape o.kind (suc n) roomy;
@@ -54,7 +51,7 @@ module _ (o : Object) (op : Op) (n : ℕ) (full : length o.items ≡ room) (own 
 
   -- `invoke`
 
-  pub invoke_returns : (invoke_of o op).answer ≡ Returned (answers (holds o) op)
+  pub invoke_returns : (invoke_of o op).answer ≡ Ok (answers (holds o) op)
   invoke_returns = invoke_answers o op clear full
 
   pub invoke_left : (invoke_of o op).object ≡ left_by o op
@@ -62,13 +59,13 @@ module _ (o : Object) (op : Op) (n : ℕ) (full : length o.items ≡ room) (own 
 
   -- `is_valid_step`: yes exactly for a right return
 
-  pub step_exactly : (ret : Ret) → (step_of o op ret).said ≡ Yes ↔ right (holds o) op ret ≡ true
+  pub step_exactly : (ret : Ret) → (step_of o op ret).said ≡ (Ok true) ↔ right (holds o) op ret ≡ true
   unfolding step_room
   step_exactly ret =
       let h = right_holds o op ret full own in
       (λ y. sym h ∙ ((step_right o op ret).0 y).1, λ e. (step_right o op ret).1 (unrefused (h ∙ e), h ∙ e))
     where
-      either : (b : Bool) → pick b (room_check (held_of o.kind) op) Clear ≡ Clear
+      either : (b : Bool) → pick b (room_check (held_of o.kind) op) (Ok tt) ≡ Ok tt
       either true = clear.has_room
       either false = refl
 
@@ -80,5 +77,5 @@ module _ (o : Object) (op : Op) (n : ℕ) (full : length o.items ≡ room) (own 
         has_room = either (took_room ret);
       }
 
-  pub step_left : (ret : Ret) → (step_of o op ret).said ≡ Yes → (step_of o op ret).object ≡ left_by o op
+  pub step_left : (ret : Ret) → (step_of o op ret).said ≡ Ok true → (step_of o op ret).object ≡ left_by o op
   step_left ret y = step_yes_left o op ret y

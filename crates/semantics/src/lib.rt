@@ -10,148 +10,119 @@ ghost use Rattle.semantics.specs.Calls.{answer_by, left_by, invoke_of, step_of, 
 use families::refusal::check_shape;
 use families::{Object, Op, Ret, placing};
 use refusal::{check_invoke, check_said, check_step};
-use values::refusal::{Check, Refusal};
+use values::refusal::Refusal;
 
-#[derive(Clone, Copy)]
-pub enum Answer {
-    Returned(Ret),
-    Refused(Refusal),
-}
-
+// What a call answers, and the object that it leaves: after a refusal as it came.
 #[derive(Clone, Copy)]
 pub struct Invoked {
-    pub answer: Answer,
+    pub answer: Result<Ret, Refusal>,
     pub object: Object,
 }
 
-#[derive(Clone, Copy)]
-pub enum Said {
-    Yes,
-    No,
-    Refused(Refusal),
-}
-
+// Whether a return, or a history, is right, and the object that is left.
 #[derive(Clone, Copy)]
 pub struct Stepped {
-    pub said: Said,
+    pub said: Result<bool, Refusal>,
     pub object: Object,
 }
 
 // What an object answers to an operation of its family.
+#[tactic(auto, unfolding(crate::specs::Calls::answer_by))]
 fn answer_by(object: Object, op: Op) -> Ret
     ensures { result ≡ answer_by object op }
 {
-    let kind = object.kind;
-    let items = object.items;
-    let held = placing::held_of(kind);
-    placing::answer(&items, held, op)
+    placing::answer(&object.items, placing::held_of(object.kind), op)
 }
 
 // What an object is after an operation of its family.
+#[tactic(auto, unfolding(crate::specs::Calls::left_by, families::specs::Placing::acted_of))]
 fn left_by(object: Object, op: Op) -> Object
     ensures { result ≡ left_by object op }
 {
-    let kind = object.kind;
     let mut items = object.items;
-    let held = placing::held_of(kind);
-    let acted = placing::act(&mut items, held, op);
-    let after = acted.held;
-    let left = placing::kind_of(kind, after);
-    Object { kind: left, items }
+    let acted = placing::act(&mut items, placing::held_of(object.kind), op);
+    Object {
+        kind: placing::kind_of(object.kind, acted.held),
+        items,
+    }
 }
 
 // Invokes an operation on an object.
+#[tactic(auto, unfolding(crate::specs::Calls::invoke_of))]
 pub fn invoke(object: Object, op: Op) -> Invoked
     ensures { result ≡ invoke_of object op }
 {
-    let kind = object.kind;
-    match check_invoke(kind, op) {
-        Check::Refused(refusal) => Invoked {
-            answer: Answer::Refused(refusal),
+    match check_invoke(object.kind, op) {
+        Ok(()) => Invoked {
+            answer: Ok(answer_by(object, op)),
+            object: left_by(object, op),
+        },
+        Err(refusal) => Invoked {
+            answer: Err(refusal),
             object,
         },
-        Check::Clear => {
-            let ret = answer_by(object, op);
-            let after = left_by(object, op);
-            Invoked {
-                answer: Answer::Returned(ret),
-                object: after,
-            }
-        }
     }
 }
 
 // Whether the return is right; in these families it is where invoking the operation would give it. A wrong Pop pops
 // all the same, as in the crate.
+#[tactic(auto, unfolding(crate::specs::Calls::step_of))]
 pub fn is_valid_step(object: Object, op: Op, ret: Ret) -> Stepped
     ensures { result ≡ step_of object op ret }
 {
     let kind = object.kind;
-    match check_step(kind, op, ret) {
-        Check::Refused(refusal) => Stepped {
-            said: Said::Refused(refusal),
+    if let Err(refusal) = check_step(kind, op, ret) {
+        return Stepped {
+            said: Err(refusal),
             object,
-        },
-        Check::Clear => {
-            let items = object.items;
-            let held = placing::held_of(kind);
-            if placing::right(&items, held, op, ret) {
-                let moved = left_by(object, op);
-                return Stepped {
-                    said: Said::Yes,
-                    object: moved,
-                };
-            }
-            if placing::leaves_wrong(op, ret) {
-                let popped = left_by(object, op);
-                return Stepped {
-                    said: Said::No,
-                    object: popped,
-                };
-            }
-            Stepped {
-                said: Said::No,
-                object,
-            }
-        }
+        };
+    }
+    if placing::right(&object.items, placing::held_of(kind), op, ret) {
+        return Stepped {
+            said: Ok(true),
+            object: left_by(object, op),
+        };
+    }
+    if placing::leaves_wrong(op, ret) {
+        let popped = left_by(object, op);
+        return Stepped {
+            said: Ok(false),
+            object: popped,
+        };
+    }
+    Stepped {
+        said: Ok(false),
+        object,
     }
 }
 
 // Whether a sequential history is right for an object: `is_valid_history(object)` is the answer for no
 // steps, and `.then(op, ret)` the answer for one step more, of any number.
+#[tactic(auto, unfolding(crate::specs::Calls::begun_of))]
 pub fn is_valid_history(object: Object) -> Stepped
     ensures { result ≡ begun_of object }
 {
-    let kind = object.kind;
-    match check_shape(kind) {
-        Check::Refused(refusal) => Stepped {
-            said: Said::Refused(refusal),
-            object,
-        },
-        Check::Clear => Stepped {
-            said: Said::Yes,
-            object,
-        },
+    Stepped {
+        said: check_shape(object.kind).map(|_| true),
+        object,
     }
 }
 
 impl Stepped {
     // The first no or refusal stays; a record that calls could not have made gets 9.
+    #[tactic(auto, unfolding(crate::specs::Calls::then_of))]
     pub fn then(self, op: Op, ret: Ret) -> Self
         ensures { result ≡ then_of self op ret }
     {
-        let said = self.said;
-        let object = self.object;
-        let kind = object.kind;
-        match check_said(kind, said) {
-            Check::Refused(refusal) => Self {
-                said: Said::Refused(refusal),
+        let Self { said, object } = self;
+        match check_said(object.kind, said) {
+            Err(refusal) => Self {
+                said: Err(refusal),
                 object,
             },
-            Check::Clear => match said {
-                Said::Yes => is_valid_step(object, op, ret),
-                Said::No => self,
-                Said::Refused(_) => self,
+            Ok(()) => match said {
+                Ok(true) => is_valid_step(object, op, ret),
+                Ok(false) | Err(_) => self,
             },
         }
     }

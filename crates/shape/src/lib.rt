@@ -3,148 +3,94 @@
 
 pub mod notes;
 
-ghost use Rattle.std.specs.Prelude.{◌≡◌, true, false, ◌<◌, replicate};
-ghost use Rattle.values.specs.Sizes.{threads, capacity};
+ghost use Rattle.std.specs.Prelude.{◌≡◌, true};
 ghost use Rattle.stepping.specs.Shape.{operation_fits, outcome_fits, shaped_with};
-ghost use Rattle.shape.specs.Pass.{look, look_of, sizes_fit, counts_in, left_after, flying_after, none_left};
+ghost use Rattle.shape.specs.Pass.{look_of, sizes_fit, counts_in, left_after, flying_after};
 
-use families::Kind;
-use families::placing::Outcome;
-use families::refusal::{check_start, op_belongs, ret_belongs};
+use families::refusal::{belongs, check_start};
+use families::{Kind, Ret};
 use stepping::histories::{History, Operation};
-use values::refusal::is_clear;
 use values::sizes::{OPERATIONS, THREADS};
 
-// Whether the history is in shape and, where it is, for each thread where its operation in flight stands: 0 for none,
-// else one more than the place.
-#[derive(Clone, Copy)]
-pub struct Look {
-    pub ok: bool,
-    pub flying: [u8; THREADS],
-}
-
-fn outcome_fits(outcome: Outcome, kind: Kind) -> bool
+// One in flight fits, and one that has returned if its return is the object's.
+#[tactic(auto, unfolding(stepping::specs::Shape::outcome_fits, families::specs::Refusals::ret_belongs))]
+fn outcome_fits(outcome: Option<Ret>, kind: Kind) -> bool
     ensures { result ≡ outcome_fits kind outcome }
 {
     match outcome {
-        Outcome::Pending => true,
-        Outcome::Returned(ret) => is_clear(ret_belongs(kind, ret)),
+        None => true,
+        Some(ret) => belongs(kind, ret).is_ok(),
     }
 }
 
 // An operation of one of the threads, that the object has.
+#[tactic(auto, unfolding(stepping::specs::Shape::operation_fits, families::specs::Refusals::op_belongs))]
 fn operation_fits(o: Operation, kind: Kind) -> bool
     ensures { result ≡ operation_fits kind o }
 {
-    let own = o.thread as usize;
-    if own < THREADS {
-        let op = o.op;
-        if is_clear(op_belongs(kind, op)) {
-            let outcome = o.outcome;
-            return outcome_fits(outcome, kind);
-        }
-    }
-    false
+    (o.thread as usize) < THREADS && belongs(kind, o.op).is_ok() && outcome_fits(o.outcome, kind)
 }
 
 // Counts an operation: it fits, one in flight is its thread's last, and one that has returned is among
 // those still to come. Answers false where it is not so.
+#[tactic(auto, using(crate::proofs::Looking::fits_known), unfolding(crate::specs::Pass::counts_in, crate::specs::Pass::goes_on, crate::specs::Pass::left_after, crate::specs::Pass::flying_after))]
 fn count_in(
     o: Operation,
     kind: Kind,
     at: usize,
     left: &mut [u8; THREADS],
-    flying: &mut [u8; THREADS],
+    flying: &mut [Option<usize>; THREADS],
 ) -> bool
-    requires { at < capacity }
     ensures value { result ≡ counts_in kind left.old flying.old o }
     ensures left_after { result ≡ true → left.new ≡ left_after left.old o }
     ensures flying_after { result ≡ true → flying.new ≡ flying_after at flying.old o }
 {
-    if operation_fits(o, kind) {
-        let own = o.thread as usize;
-        let mark = flying[own];
-        if mark == 0 {
-            let outcome = o.outcome;
-            match outcome {
-                Outcome::Pending => {
-                    let here = (at + 1) as u8;
-                    flying[own] = here;
-                    return true;
-                }
-                Outcome::Returned(_) => {
-                    let more = left[own];
-                    if more == 0 {
-                        return false;
-                    }
-                    left[own] = more - 1;
-                    return true;
-                }
+    if !operation_fits(o, kind) {
+        return false;
+    }
+    let own = o.thread as usize;
+    if flying[own].is_some() {
+        return false;
+    }
+    match o.outcome {
+        None => flying[own] = Some(at),
+        Some(_) => {
+            if left[own] == 0 {
+                return false;
             }
+            left[own] -= 1;
         }
-    }
-    false
-}
-
-fn out_of_shape() -> Look
-    ensures { result ≡ look false (replicate threads 0) }
-{
-    Look {
-        ok: false,
-        flying: [0; THREADS],
-    }
-}
-
-// Nothing is left of any thread.
-fn none_left(left: &[u8; THREADS]) -> bool
-    ensures { result ≡ none_left left.now }
-{
-    let mut t = 0;
-    while t < THREADS {
-        let n = left[t];
-        if n != 0 {
-            return false;
-        }
-        t += 1;
     }
     true
 }
 
 // Not too many operations, and an object that a tester can start with.
+#[tactic(auto, unfolding(crate::specs::Pass::sizes_fit))]
 fn sizes_fit(noted: bool, count: usize, kind: Kind) -> bool
     ensures { result ≡ sizes_fit noted count kind }
 {
-    if noted {
-        if count <= OPERATIONS {
-            return is_clear(check_start(kind));
-        }
-    }
-    false
+    noted && count <= OPERATIONS && check_start(kind).is_ok()
 }
 
-// `noted`: what stands beside the history is in shape.
-pub fn look_at(history: History, noted: bool) -> Look
-    ensures { result ≡ look_of (shaped_with noted history) history }
+// Where each thread has its operation in flight, if the history is in shape. `noted`: what stands beside the history
+// is in shape.
+pub fn look_at(history: &History, noted: bool) -> Option<[Option<usize>; THREADS]>
+    ensures { result ≡ look_of (shaped_with noted history.now) history.now }
 {
-    let mut flying = [0u8; THREADS];
-    let count = history.count;
-    let start = history.start;
-    let kind = start.kind;
-    if sizes_fit(noted, count, kind) {
-        let mut left = history.done;
-        let mut i = 0;
-        while i < count {
-            let o = history.ops[i];
-            if count_in(o, kind, i, &mut left, &mut flying) {
-                i += 1;
-            } else {
-                return out_of_shape();
-            }
-        }
-        if none_left(&left) {
-            return Look { ok: true, flying };
-        }
-        return out_of_shape();
+    let kind = history.start.kind;
+    if !sizes_fit(noted, history.count, kind) {
+        return None;
     }
-    out_of_shape()
+    let mut left = history.done;
+    let mut flying = [None; THREADS];
+    for (at, o) in history.ops[..history.count].iter().enumerate() {
+        if !count_in(*o, kind, at, &mut left, &mut flying) {
+            return None;
+        }
+    }
+    if left == [0; THREADS] {
+        Some(flying)
+    } else {
+        None
+    }
 }

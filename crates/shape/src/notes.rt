@@ -11,47 +11,37 @@ use values::sizes::{OPERATIONS, THREADS};
 pub const NOTES: usize = OPERATIONS * THREADS;
 
 // How many completed operations of thread u an operation of thread `own` can note, and does when it is invoked.
+#[tactic(auto, unfolding(stepping::specs::Shape::notable))]
 fn notable_of(done: u8, own: u8, u: u8) -> u8
     ensures { result ≡ notable done own u }
 {
-    if u == own {
-        return 0;
-    }
-    done
+    if u == own { 0 } else { done }
 }
 
 // The notes of an operation at a place: none on its own thread, and none on what has not completed.
+#[tactic(auto, unfolding(stepping::specs::Shape::notes_fit, stepping::specs::Shape::all_below))]
 fn notes_fit(notes: &[u8; NOTES], done: &[u8; THREADS], at: usize, own: u8) -> bool
     requires { at < capacity }
     ensures { result ≡ notes_fit done.now notes.now at own }
 {
-    let mut u = 0;
-    while u < THREADS {
-        let note = notes[at * THREADS + u];
-        let most = notable_of(done[u], own, u as u8);
-        if most < note {
+    for u in 0..THREADS {
+        if notable_of(done[u], own, u as u8) < notes[at * THREADS + u] {
             return false;
         }
-        u += 1;
     }
     true
 }
 
 // Whether the notes beside a history are in shape.
-pub fn noted(history: History, notes: &[u8; NOTES]) -> bool
-    ensures { result ≡ notes_in history notes.now }
+#[tactic(auto, unfolding(crate::specs::Notes::notes_in))]
+pub fn noted(history: &History, notes: &[u8; NOTES]) -> bool
+    ensures { result ≡ notes_in history.now notes.now }
 {
-    let count = history.count;
-    if OPERATIONS < count {
+    if OPERATIONS < history.count {
         return false;
     }
-    let done = history.done;
-    let mut i = 0;
-    while i < count {
-        let o = history.ops[i];
-        if notes_fit(notes, &done, i, o.thread) {
-            i += 1;
-        } else {
+    for (i, o) in history.ops[..history.count].iter().enumerate() {
+        if !notes_fit(notes, &history.done, i, o.thread) {
             return false;
         }
     }
@@ -60,16 +50,14 @@ pub fn noted(history: History, notes: &[u8; NOTES]) -> bool
 
 // Writes the notes of an operation that is invoked now and gets that place; there are none for a place that no
 // operation has.
+#[tactic(auto, unfolding(crate::specs::Notes::noted_at, crate::specs::Notes::notes_with))]
 pub fn note(notes: &mut [u8; NOTES], done: &[u8; THREADS], at: usize, own: u8)
     ensures { notes.new ≡ noted_at done.now own at notes.old }
 {
     if OPERATIONS <= at {
         return;
     }
-    let mut u = 0;
-    while u < THREADS {
-        let n = notable_of(done[u], own, u as u8);
-        notes[at * THREADS + u] = n;
-        u += 1;
+    for u in 0..THREADS {
+        notes[at * THREADS + u] = notable_of(done[u], own, u as u8);
     }
 }

@@ -1,17 +1,14 @@
 -- What a history in shape tells of its places and counts.
-use Rattle.std.specs.Prelude.{ℕ, ◌+◌, ◌<◌, ◌≤◌, ◌≡◌, Bool, true, false, List, [], ◌∷◌, leb, length, get_or}
+use Rattle.std.specs.Prelude.{ℕ, ◌+◌, ◌<◌, ◌≤◌, ◌≡◌, Bool, true, false, List, [], ◌∷◌, leb, length, get_or, Option, Some, None, is_ok}
 use Rattle.std.proofs.Common.{arith}
 use Rattle.std.proofs.Math.Dec.{eqb}
 use Rattle.std.proofs.Math.ListN.{length-take}
 use borrow.Author.Tests.{eqb-true, leb-true}
 use Rattle.values.specs.Value.{pick}
 use Rattle.values.specs.Sizes.{threads, capacity}
-use Rattle.values.specs.Checks.{is_clear}
 use Rattle.families.specs.Refusals.{start_check}
 use Rattle.stepping.specs.declared.histories.Operation.{Operation}
 use Rattle.stepping.specs.declared.histories.History.{History}
-use Rattle.stepping.specs.declared.histories.Flying.{Flying}
-use Rattle.stepping.specs.declared.histories.Flying.TheVariants.{At, Nothing}
 use Rattle.stepping.specs.Record.{held, flying_by, flying_from, find_flying}
 use Rattle.stepping.specs.Shape.{kind_of, done_by, count_done, operations_fit, flying_last, counts_right, shape_of, shaped_with}
 use Rattle.values.specs.SameValues.{both}
@@ -19,24 +16,24 @@ use Rattle.stepping.specs.RecordLaws.{never, below_at}
 
 -- what is found is among what is held
 
-Below : ℕ → Flying → Type 0
-Below n (At i) = i < n
-Below n Nothing = Unit {0}
+Below : ℕ → Option ℕ → Type 0
+Below n (Some i) = i < n
+Below n None = Unit {0}
 
 from_below : (t i : ℕ) (os : List Operation) → Below (i + length os) (flying_from t i os)
 unfolding flying_from Below
 from_below t i [] = tt
 from_below t i (o ∷ os) = go (flying_by t o) (flying_from t (i + 1) os) (from_below t (i + 1) os)
   where
-    go : (b : Bool) (r : Flying) → Below (i + 1 + length os) r → Below (i + length (o ∷ os)) (pick b (At i) r)
+    go : (b : Bool) (r : Option ℕ) → Below (i + 1 + length os) r → Below (i + length (o ∷ os)) (pick b (Some i) r)
     go true r w = omega arith
-    go false (At j) w = omega arith
-    go false Nothing w = tt
+    go false (Some j) w = omega arith
+    go false None w = tt
 
-found_in : (t : ℕ) (h : History) (i : ℕ) → find_flying t h ≡ At i → i < h.count
+found_in : (t : ℕ) (h : History) (i : ℕ) → find_flying t h ≡ Some i → i < h.count
 unfolding find_flying Below
 found_in t h i e =
-    let b : Below (0 + length (held h)) (At i) = rw e at (from_below t 0 (held h)) in
+    let b : Below (0 + length (held h)) (Some i) = rw e at (from_below t 0 (held h)) in
     omega (arith, length-take h.count h.ops)
 
 -- what shape says of the counts
@@ -66,11 +63,11 @@ module _ (noted : Bool) (h : History) (e : shaped_with noted h ≡ true) where
   unfolding shape_of
   counts =
       let a = (both (leb h.count capacity) _ shaped).1 in
-      let b = (both (is_clear (start_check (kind_of h))) _ a).1 in
+      let b = (both (is_ok (start_check (kind_of h))) _ a).1 in
       let c = (both (operations_fit (kind_of h) (held h)) _ b).1 in
       (both (flying_last (held h)) _ c).1
 
-  pub place_small : (t i : ℕ) → find_flying t h ≡ At i → i < capacity
+  pub place_small : (t i : ℕ) → find_flying t h ≡ Some i → i < capacity
   place_small t i q = omega (arith, found_in t h i q, few)
 
   pub done_small : (t : ℕ) → t < threads → get_or h.done t 0 ≤ capacity

@@ -1,5 +1,5 @@
 -- One step of recording in the code's own terms: what an event comes to, and what it changes. What counts stands in Record and EventSteps; Admitting ties these to it.
-use Rattle.std.specs.Prelude.{ℕ, ◌+◌, ◌%◌, ◌<◌, ◌≤◌, ◌≡◌, refl, Bool, List, get_or, set}
+use Rattle.std.specs.Prelude.{ℕ, ◌+◌, ◌%◌, ◌<◌, ◌≤◌, ◌≡◌, refl, Bool, List, get_or, set, Option, Some, None, Result}
 use Rattle.std.proofs.Common.{mod-eq_of_lt, arith}
 use Rattle.std.proofs.lemmas.List.{set-get_or}
 use Rattle.values.specs.Sizes.{threads, capacity}
@@ -9,15 +9,14 @@ use Rattle.families.specs.declared.Op.{Op}
 use Rattle.families.specs.declared.Ret.{Ret}
 use Rattle.families.specs.declared.event.Event.{Event}
 use Rattle.families.specs.declared.event.Event.TheVariants.{Invoked, Returned}
-use Rattle.families.specs.declared.placing.Outcome.TheVariants.{Pending, Returned as OReturned}
 use Rattle.stepping.specs.declared.histories.Operation.{Operation}
 use Rattle.stepping.specs.declared.histories.History.{History}
-use Rattle.stepping.specs.declared.recorded.Recorded.{Recorded}
 use Rattle.stepping.specs.declared.step.Step.{Step}
 use Rattle.stepping.specs.declared.step.Change.{Change}
 use Rattle.stepping.specs.Record.{operation, operation_at, extended, completed}
 use Rattle.stepping.specs.EventSteps.{invoke_of, return_of}
 use Rattle.stepping.specs.StepChecks.{place_in, place_at, admit_of, invoke_check, return_check}
+use Rattle.stepping.specs.declared.recorded.Reason.{Reason}
 
 -- an event of either kind, by what its own definition says
 abbrev pub event_of : Bool → History → Event → Step
@@ -29,28 +28,28 @@ thread_of (Invoked t op) = t
 thread_of (Returned t ret) = t
 
 -- what an event comes to, from what is known of the history
-unfoldable pub comes_to : Bool → Bool → Kind → List ℕ → ℕ → Event → Recorded
+unfoldable pub comes_to : Bool → Bool → Kind → List (Option ℕ) → ℕ → Event → Result Unit Reason
 comes_to shaped valid k flying count (Invoked t op) = invoke_check (admit_of shaped valid t (op_belongs k op)) (place_in flying t) count
 comes_to shaped valid k flying count (Returned t ret) = return_check (admit_of shaped valid t (ret_belongs k ret)) (place_in flying t)
 
 -- the place of its operation
-unfoldable pub place_for : Event → List ℕ → ℕ → ℕ
+unfoldable pub place_for : Event → List (Option ℕ) → ℕ → ℕ
 place_for (Invoked t op) flying count = count
 place_for (Returned t ret) flying count = place_at (place_in flying t)
 
 -- what it changes
 unfoldable pub change_of : Event → Operation → ℕ → ℕ → ℕ → Change
 change_of (Invoked t op) o i count done = record {
-  operation = operation (t % 256) op Pending;
+  operation = operation (t % 256) op None;
   count = count % capacity + 1;
   done = done;
-  mark = i % 255 + 1;
+  mark = Some i;
 }
 change_of (Returned t ret) o i count done = record {
-  operation = operation o.thread o.op (OReturned ret);
+  operation = operation o.thread o.op (Some ret);
   count = count;
   done = done % 255 + 1;
-  mark = 0;
+  mark = None;
 }
 
 -- a history with a change at place i, of thread t
@@ -88,10 +87,10 @@ pub thread_invoked : (h : History) (t : ℕ) (op : Op) (i : ℕ) → t < threads
 unfolding change_of
 thread_invoked h t op i l = small t 256 (omega (arith, l))
 
-pub mark_invoked : (h : History) (t : ℕ) (op : Op) (i : ℕ) → i < capacity → (change_at h (Invoked t op) i).mark ≡ i + 1
+pub mark_invoked : (h : History) (t : ℕ) (op : Op) (i : ℕ) → (change_at h (Invoked t op) i).mark ≡ Some i
 unfolding change_of
-mark_invoked h t op i l = rw (small i 255 (omega (arith, l))) refl
+mark_invoked h t op i = refl
 
-pub mark_returned : (h : History) (t : ℕ) (ret : Ret) (i : ℕ) → (change_at h (Returned t ret) i).mark ≡ 0
+pub mark_returned : (h : History) (t : ℕ) (ret : Ret) (i : ℕ) → (change_at h (Returned t ret) i).mark ≡ None
 unfolding change_of
 mark_returned h t ret i = refl

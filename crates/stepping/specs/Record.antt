@@ -1,25 +1,21 @@
 -- The record that both testers share: what it holds, and the ways in which events change it.
-use Rattle.std.specs.Prelude.{ℕ, ◌+◌, Bool, true, false, List, [], ◌∷◌, get_or, set, take, replicate, eqb}
+use Rattle.std.specs.Prelude.{ℕ, ◌+◌, Bool, true, false, List, [], ◌∷◌, get_or, set, take, replicate, eqb, Option, Some, None}
 use Rattle.values.specs.Value.{pick}
 use Rattle.values.specs.Sizes.{threads, capacity}
 use Rattle.families.specs.Objects.{no_op}
 use Rattle.families.specs.declared.Object.{Object}
 use Rattle.families.specs.declared.Op.{Op}
 use Rattle.families.specs.declared.Ret.{Ret}
-use Rattle.families.specs.declared.placing.Outcome.{Outcome}
-use Rattle.families.specs.declared.placing.Outcome.TheVariants.{Pending, Returned}
 use Rattle.stepping.specs.declared.histories.Operation.{Operation}
 use Rattle.stepping.specs.declared.histories.History.{History}
-use Rattle.stepping.specs.declared.histories.Flying.{Flying}
-use Rattle.stepping.specs.declared.histories.Flying.TheVariants.{At, Nothing}
 
 -- an operation of a thread, in flight or returned
-abbrev pub operation : ℕ → Op → Outcome → Operation
+abbrev pub operation : ℕ → Op → Option Ret → Operation
 operation t op outcome = record { thread = t; op = op; outcome = outcome }
 
 -- what stands in a place that was never taken
 abbrev pub blank_operation : Operation
-blank_operation = operation 0 no_op Pending
+blank_operation = operation 0 no_op None
 
 -- the operations that are held, in the order of their invocations; the places behind them count for nothing
 abbrev pub held : History → List Operation
@@ -40,21 +36,21 @@ fresh start = record {
 }
 
 -- in flight
-unfoldable pub is_pending : Outcome → Bool
-is_pending Pending = true
-is_pending (Returned r) = false
+unfoldable pub is_pending : Option Ret → Bool
+is_pending None = true
+is_pending (Some r) = false
 
 -- an operation of thread t in flight
 unfoldable pub flying_by : ℕ → Operation → Bool
 flying_by t o = pick (eqb o.thread t) (is_pending o.outcome) false
 
 -- the place of the first operation of thread t in flight, counted from i
-unfoldable pub flying_from : ℕ → ℕ → List Operation → Flying
-flying_from t i [] = Nothing
-flying_from t i (o ∷ os) = pick (flying_by t o) (At i) (flying_from t (i + 1) os)
+unfoldable pub flying_from : ℕ → ℕ → List Operation → Option ℕ
+flying_from t i [] = None
+flying_from t i (o ∷ os) = pick (flying_by t o) (Some i) (flying_from t (i + 1) os)
 
 -- the place of thread t's operation in flight
-unfoldable pub find_flying : ℕ → History → Flying
+unfoldable pub find_flying : ℕ → History → Option ℕ
 find_flying t h = flying_from t 0 (held h)
 
 -- validity goes off, and the rest is kept
@@ -65,7 +61,7 @@ invalidated h = record { start = h.start; ops = h.ops; count = h.count; done = h
 abbrev pub extended : History → ℕ → Op → History
 extended h t op = record {
   start = h.start;
-  ops = set h.ops h.count (operation t op Pending);
+  ops = set h.ops h.count (operation t op None);
   count = h.count + 1;
   done = h.done;
   valid = h.valid;
@@ -75,7 +71,7 @@ extended h t op = record {
 abbrev pub completed : History → ℕ → ℕ → Ret → History
 completed h i t ret = record {
   start = h.start;
-  ops = set h.ops i (operation (operation_at h i).thread (operation_at h i).op (Returned ret));
+  ops = set h.ops i (operation (operation_at h i).thread (operation_at h i).op (Some ret));
   count = h.count;
   done = set h.done t (get_or h.done t 0 + 1);
   valid = h.valid;

@@ -1,15 +1,18 @@
 -- Laws that the proofs of several functions cite.
 use Prim.Native.Nat.{ℕ, zero, suc, ◌+◌, ◌<◌, ◌≤◌}
-use Rattle.std.specs.Prelude.{◌≡◌, Bool, true, List, [], ◌∷◌, map, length, get_or, take, drop}
+use Rattle.std.specs.Prelude.{◌≡◌, Bool, true, List, [], ◌∷◌, length, get_or, take, drop}
 use Rattle.std.proofs.Math.Path.{refl, subst}
-use Rattle.std.proofs.Common.{sym, ◌∙◌, eq-or-lt_of_le, add-one, drop_of_length-le, drop-cons, get_or-take, length-take-le}
+use Rattle.std.proofs.Common.{sym, eq-or-lt_of_le, add-one, drop_of_length-le, drop-cons, get_or-take, length-take-le}
 use Rattle.std.proofs.Math.Bool.{false}
 use Rattle.std.proofs.Math.Logic.{⊎_elim}
 use native.Mathlib.Omega.{arith}
-use Rattle.std.proofs.lemmas.List.{length-map}
 use Rattle.values.specs.Value.{pick}
 use Rattle.values.specs.SameValues.{both}
 use Rattle.stepping.specs.Shape.{all_below}
+
+-- a list from place i on
+pub drop_more : {A : Type 0} (l : List A) (i : ℕ) (d : A) → i < length l → drop i l ≡ get_or l i d ∷ drop (i + 1) l
+drop_more l i d h = rw add-one (drop-cons l i d h)
 
 -- the first n of a list, from place i on
 
@@ -21,10 +24,6 @@ held_cons l n i d h k =
 
 pub held_end : {A : Type 0} (l : List A) (n i : ℕ) → n ≤ i → n ≤ length l → drop i (take n l) ≡ []
 held_end l n i h k = let m : length (take n l) ≤ i = rw (length-take-le n l k) h in drop_of_length-le (take n l) m
-
--- what owning an array of structs tells of its list
-pub unmapped : {A B : Type 0} (f : A → B) (l : List A) (n : ℕ) → length (map f l) ≡ n → length l ≡ n
-unmapped f l n e = sym (length-map l f) ∙ e
 
 -- tests
 

@@ -1,13 +1,9 @@
 -- When a record is in shape; out of shape is number 9 of document 01.
-use Rattle.std.specs.Prelude.{ℕ, zero, suc, ◌+◌, ◌*◌, ◌<◌, ◌≤◌, ◌≡◌, Bool, true, false, List, [], ◌∷◌, get_or, ltb, leb, eqb}
+use Rattle.std.specs.Prelude.{ℕ, zero, suc, ◌+◌, ◌*◌, ◌<◌, ◌≤◌, ◌≡◌, Bool, true, false, List, [], ◌∷◌, get_or, ltb, leb, eqb, Option, Some, None, Ok, is_ok}
 use Rattle.values.specs.Value.{pick}
 use Rattle.values.specs.Sizes.{threads, capacity}
-use Rattle.values.specs.Checks.{is_clear}
 use Rattle.families.specs.Refusals.{op_belongs, ret_belongs, start_check}
 use Rattle.families.specs.declared.Kind.{Kind}
-use Rattle.values.specs.declared.refusal.Check.TheVariants.{Clear}
-use Rattle.families.specs.declared.placing.Outcome.{Outcome}
-use Rattle.families.specs.declared.placing.Outcome.TheVariants.{Pending, Returned}
 use Rattle.families.specs.declared.Ret.{Ret}
 use Rattle.stepping.specs.declared.histories.Operation.{Operation}
 use Rattle.stepping.specs.declared.histories.History.{History}
@@ -39,13 +35,13 @@ pub record InShape (h : History) : Type 0 where
   -- at most 64 operations
   pub few : h.count ≤ capacity
   -- an initial object that a tester can start with: a stack of at most 32
-  pub startable : start_check (kind_of h) ≡ Clear
+  pub startable : start_check (kind_of h) ≡ Ok tt
   -- threads 0 to 7
   pub known : (i : ℕ) → i < h.count → (operation_at h i).thread < threads
   -- one family: the object's own operations
-  pub own_op : (i : ℕ) → i < h.count → op_belongs (kind_of h) (operation_at h i).op ≡ Clear
+  pub own_op : (i : ℕ) → i < h.count → op_belongs (kind_of h) (operation_at h i).op ≡ Ok tt
   -- one family: its own returns
-  pub own_ret : (i : ℕ) → i < h.count → (r : Ret) → (operation_at h i).outcome ≡ Returned r → ret_belongs (kind_of h) r ≡ Clear
+  pub own_ret : (i : ℕ) → i < h.count → (r : Ret) → (operation_at h i).outcome ≡ Some r → ret_belongs (kind_of h) r ≡ Ok tt
   -- an operation in flight is its thread's last, so that no thread has two
   pub last : (i j : ℕ) → i < j → j < h.count → (operation_at h i).thread ≡ (operation_at h j).thread → is_pending (operation_at h i).outcome ≡ false
   -- each stored count is what is held
@@ -65,13 +61,13 @@ unfoldable pub all_below : (ℕ → Bool) → ℕ → Bool
 all_below p zero = true
 all_below p (suc n) = pick (all_below p n) (p n) false
 
-unfoldable pub outcome_fits : Kind → Outcome → Bool
-outcome_fits k Pending = true
-outcome_fits k (Returned r) = is_clear (ret_belongs k r)
+unfoldable pub outcome_fits : Kind → Option Ret → Bool
+outcome_fits k None = true
+outcome_fits k (Some r) = is_ok (ret_belongs k r)
 
 -- one of the threads, and the object's own
 unfoldable pub operation_fits : Kind → Operation → Bool
-operation_fits k o = pick (ltb o.thread threads) (pick (is_clear (op_belongs k o.op)) (outcome_fits k o.outcome) false) false
+operation_fits k o = pick (ltb o.thread threads) (pick (is_ok (op_belongs k o.op)) (outcome_fits k o.outcome) false) false
 
 unfoldable pub operations_fit : Kind → List Operation → Bool
 operations_fit k [] = true
@@ -94,7 +90,7 @@ counts_right done os = all_below (λ t. eqb (get_or done t 0) (count_done t os))
 unfoldable pub shape_of : History → Bool
 shape_of h =
     pick (leb h.count capacity)
-    (pick (is_clear (start_check (kind_of h)))
+    (pick (is_ok (start_check (kind_of h)))
     (pick (operations_fit (kind_of h) (held h))
     (pick (flying_last (held h)) (counts_right h.done (held h)) false)
     false)

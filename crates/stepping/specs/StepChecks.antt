@@ -1,65 +1,51 @@
 -- What the code works out of an event on its way, in the code's own steps. What counts stands in EventSteps; Admitting ties these to it.
-use Rattle.std.specs.Prelude.{ℕ, ◌-◌, ◌<◌, ◌≡◌, Bool, true, List, get_or, ltb, eqb}
+use Rattle.std.specs.Prelude.{ℕ, ◌<◌, ◌≡◌, Bool, true, List, get_or, ltb, Option, Some, None, Result, Ok, Err, is_ok}
 use Rattle.values.specs.Value.{pick}
 use Rattle.values.specs.Sizes.{threads, capacity}
-use Rattle.values.specs.declared.refusal.Check.{Check}
-use Rattle.values.specs.declared.refusal.Check.TheVariants.{Clear, Refused as CRefused}
 use Rattle.stepping.specs.declared.histories.History.{History}
-use Rattle.stepping.specs.declared.histories.Flying.{Flying}
-use Rattle.stepping.specs.declared.histories.Flying.TheVariants.{At, Nothing}
-use Rattle.stepping.specs.declared.recorded.Recorded.{Recorded}
-use Rattle.stepping.specs.declared.recorded.Recorded.TheVariants.{Taken, Refused}
 use Rattle.stepping.specs.declared.recorded.Reason.TheVariants.{AlreadyInvalid, NoSuchThread, NotOwn, InFlight, NothingInFlight, Full, OutOfShape}
 use Rattle.stepping.specs.Record.{find_flying}
-use Rattle.stepping.specs.EventSteps.{is_taken, unless}
+use Rattle.stepping.specs.EventSteps.{unless}
+use Rattle.values.specs.declared.refusal.Refusal.{Refusal}
+use Rattle.stepping.specs.declared.recorded.Reason.{Reason}
 
--- the place that a mark says: 0 for none, else one more than the place
-unfoldable pub place_of : ℕ → Flying
-place_of mark = pick (eqb mark 0) Nothing (At (mark - 1))
+-- where thread t has its operation in flight, by the marks of all threads, and that place as a number
 
--- where thread t has its operation in flight, and that place as a number
+unfoldable pub place_in : List (Option ℕ) → ℕ → Option ℕ
+place_in flying t = pick (ltb t threads) (get_or flying t None) None
 
-unfoldable pub place_in : List ℕ → ℕ → Flying
-place_in flying t = pick (ltb t threads) (place_of (get_or flying t 0)) Nothing
-
-unfoldable pub place_at : Flying → ℕ
-place_at (At i) = i
-place_at Nothing = 0
+unfoldable pub place_at : Option ℕ → ℕ
+place_at (Some i) = i
+place_at None = 0
 
 -- what an event comes to, from what is known of the history: the refusals in their order
 
-unfoldable pub checked_of : Check → Recorded
-checked_of Clear = Taken
-checked_of (CRefused r) = Refused (NotOwn r)
+unfoldable pub checked_of : Result Unit Refusal → Result Unit Reason
+checked_of (Ok tt) = Ok tt
+checked_of (Err r) = Err (NotOwn r)
 
-unfoldable pub known_of : ℕ → Recorded
-known_of t = unless (ltb t threads) (Refused NoSuchThread) Taken
-
-unfoldable pub in_turn : Recorded → Recorded → Recorded
-in_turn first second = pick (is_taken first) second first
-
-unfoldable pub admit_by : Bool → Bool → Bool → Check → Recorded
+unfoldable pub admit_by : Bool → Bool → Bool → Result Unit Refusal → Result Unit Reason
 admit_by shaped valid known own =
-    unless shaped (Refused OutOfShape) (unless valid (Refused AlreadyInvalid) (unless known (Refused NoSuchThread) (checked_of own)))
+    unless shaped (Err OutOfShape) (unless valid (Err AlreadyInvalid) (unless known (Err NoSuchThread) (checked_of own)))
 
-unfoldable pub admit_of : Bool → Bool → ℕ → Check → Recorded
+unfoldable pub admit_of : Bool → Bool → ℕ → Result Unit Refusal → Result Unit Reason
 admit_of shaped valid t own = admit_by shaped valid (ltb t threads) own
 
-abbrev pub invoke_go : Flying → Bool → Recorded
-invoke_go (At i) room = Refused InFlight
-invoke_go Nothing room = unless room (Refused Full) Taken
+abbrev pub invoke_go : Option ℕ → Bool → Result Unit Reason
+invoke_go (Some i) room = Err InFlight
+invoke_go None room = unless room (Err Full) (Ok tt)
 
-unfoldable pub invoke_check : Recorded → Flying → ℕ → Recorded
-invoke_check first place count = pick (is_taken first) (invoke_go place (ltb count capacity)) first
+unfoldable pub invoke_check : Result Unit Reason → Option ℕ → ℕ → Result Unit Reason
+invoke_check first place count = pick (is_ok first) (invoke_go place (ltb count capacity)) first
 
-abbrev pub return_go : Flying → Recorded
-return_go (At i) = Taken
-return_go Nothing = Refused NothingInFlight
+abbrev pub return_go : Option ℕ → Result Unit Reason
+return_go (Some i) = Ok tt
+return_go None = Err NothingInFlight
 
-unfoldable pub return_check : Recorded → Flying → Recorded
-return_check first place = pick (is_taken first) (return_go place) first
+unfoldable pub return_check : Result Unit Reason → Option ℕ → Result Unit Reason
+return_check first place = pick (is_ok first) (return_go place) first
 
 -- What is known of a history before an event: whether it is in shape and, where it is, by a mark for each thread the place of its operation in flight.
-pub record Known (shaped : Bool) (h : History) (ok : Bool) (flying : List ℕ) : Type 0 where
+pub record Known (shaped : Bool) (h : History) (ok : Bool) (flying : List (Option ℕ)) : Type 0 where
   pub ok_is : ok ≡ shaped
-  pub places : shaped ≡ true → (t : ℕ) → t < threads → place_of (get_or flying t 0) ≡ find_flying t h
+  pub places : shaped ≡ true → (t : ℕ) → t < threads → get_or flying t None ≡ find_flying t h

@@ -3,19 +3,17 @@ ghost use Rattle.std.specs.Prelude.{◌≡◌};
 ghost use Rattle.stepping.specs.Record.{fresh};
 ghost use Rattle.stepping.specs.EventSteps.{begun_of};
 
-use crate::recorded::Made;
-use families::placing::Outcome;
 use families::refusal::check_start;
-use families::{Object, Op, no_op};
-use values::refusal::Check;
+use families::{Object, Op, Ret, no_op};
+use values::refusal::Refusal;
 use values::sizes::{OPERATIONS, THREADS};
 
-// An operation of a thread, in flight or returned.
+// An operation of a thread, with its return once it has returned; until then it is in flight.
 #[derive(Clone, Copy)]
 pub struct Operation {
     pub thread: u8,
     pub op: Op,
-    pub outcome: Outcome,
+    pub outcome: Option<Ret>,
 }
 
 // The first `count` operations, in the order of their invocations; `done` has how many each thread has
@@ -23,29 +21,22 @@ pub struct Operation {
 #[derive(Clone, Copy)]
 pub struct History {
     pub start: Object,
+    // An array with a count beside it: a tester uses no heap, and document 01 gives the most that it holds.
     pub ops: [Operation; OPERATIONS],
     pub count: usize,
     pub done: [u8; THREADS],
     pub valid: bool,
 }
 
-// Where in the history a thread has its operation in flight.
-#[derive(Clone, Copy)]
-pub enum Flying {
-    At(usize),
-    Nothing,
-}
-
 // A history with nothing recorded.
+#[tactic(auto, unfolding(crate::specs::Record::fresh))]
 fn empty(start: Object) -> History
     ensures { result ≡ fresh start }
 {
-    let op = no_op();
-    let outcome = Outcome::Pending;
     let blank = Operation {
         thread: 0,
-        op,
-        outcome,
+        op: no_op(),
+        outcome: None,
     };
     History {
         start,
@@ -56,32 +47,22 @@ fn empty(start: Object) -> History
     }
 }
 
+// A history as it begins, and what its start came to.
 #[derive(Clone, Copy)]
 pub struct Begun {
-    pub made: Made,
+    pub made: Result<(), Refusal>,
     pub history: History,
 }
 
 // A refused object leaves a fresh history of the one that stands in for it.
+#[tactic(auto, unfolding(crate::specs::EventSteps::begun_of))]
 pub fn begin(start: Object) -> Begun
     ensures { result ≡ begun_of start }
 {
-    let kind = start.kind;
-    match check_start(kind) {
-        Check::Clear => {
-            let history = empty(start);
-            Begun {
-                made: Made::New,
-                history,
-            }
-        }
-        Check::Refused(refusal) => {
-            let default = Object::stand_in(kind);
-            let history = empty(default);
-            Begun {
-                made: Made::Refused(refusal),
-                history,
-            }
-        }
-    }
+    let made = check_start(start.kind);
+    let history = match made {
+        Ok(()) => empty(start),
+        Err(_) => empty(Object::stand_in(start.kind)),
+    };
+    Begun { made, history }
 }

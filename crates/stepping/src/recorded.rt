@@ -1,12 +1,12 @@
-// What recording an event, or making a tester, comes to, with document 01's numbers.
+// What recording an event, or making a tester, comes to: `Ok(())`, or why it is refused; with document 01's numbers.
 ghost use Rattle.std.specs.Prelude.{◌≡◌};
-ghost use Rattle.stepping.specs.EventSteps.{reason_number, number_of, is_taken, made_number_of};
+ghost use Rattle.stepping.specs.declared.recorded.Reason.TheVariants.{NotOwn};
+ghost use Rattle.stepping.specs.EventSteps.{reason_number, number_by};
 
-use values::refusal;
 use values::refusal::Refusal;
 
 // Why an event is refused.
-#[derive(Clone, Copy)]
+#[derive(Clone, Copy, Debug, PartialEq, Eq)]
 pub enum Reason {
     AlreadyInvalid,
     NoSuchThread,
@@ -17,59 +17,40 @@ pub enum Reason {
     OutOfShape,
 }
 
-// What recording an event comes to.
-#[derive(Clone, Copy)]
-pub enum Recorded {
-    Taken,
-    Refused(Reason),
-}
+// What the object refuses is refused with its reason.
+impl From<Refusal> for Reason {
+    ghost from_gives = { λ refusal reason. reason ≡ NotOwn refusal };
 
-fn reason_number(reason: Reason) -> u8
-    ensures { result ≡ reason_number reason }
-{
-    match reason {
-        Reason::AlreadyInvalid => 1,
-        Reason::NoSuchThread => 2,
-        Reason::NotOwn(refusal) => refusal::number(refusal),
-        Reason::InFlight => 4,
-        Reason::NothingInFlight => 5,
-        Reason::Full => 6,
-        Reason::OutOfShape => 9,
+    fn from(refusal: Refusal) -> Reason {
+        Reason::NotOwn(refusal)
     }
 }
 
-// Its number in document 01.
-pub fn number(recorded: Recorded) -> u8
-    ensures { result ≡ number_of recorded }
-{
-    match recorded {
-        Recorded::Taken => 0,
-        Recorded::Refused(reason) => reason_number(reason),
+// The number of a reason in document 01.
+impl From<Reason> for u8 {
+    ghost from_gives = { λ reason n. n ≡ reason_number reason };
+
+    #[tactic(auto, unfolding(crate::specs::EventSteps::reason_number))]
+    fn from(reason: Reason) -> u8 {
+        match reason {
+            Reason::AlreadyInvalid => 1,
+            Reason::NoSuchThread => 2,
+            Reason::NotOwn(refusal) => refusal.into(),
+            Reason::InFlight => 4,
+            Reason::NothingInFlight => 5,
+            Reason::Full => 6,
+            Reason::OutOfShape => 9,
+        }
     }
 }
 
-pub fn is_taken(recorded: Recorded) -> bool
-    ensures { result ≡ is_taken recorded }
+// The number of what an event (a `Reason`) or a start (a `Refusal`) came to: 0 where it is not refused. Result and u8 are
+// std's, so that this can't be a From.
+pub fn number<R: Into<u8>>(came: Result<(), R>) -> u8
+    ensures { number_by R.converts came result }
 {
-    match recorded {
-        Recorded::Taken => true,
-        Recorded::Refused(_) => false,
-    }
-}
-
-// What a constructor comes to.
-#[derive(Clone, Copy)]
-pub enum Made {
-    New,
-    Refused(Refusal),
-}
-
-// Its number in document 01.
-pub fn made_number(made: Made) -> u8
-    ensures { result ≡ made_number_of made }
-{
-    match made {
-        Made::New => 0,
-        Made::Refused(refusal) => refusal::number(refusal),
+    match came {
+        Ok(()) => 0,
+        Err(refused) => refused.into(),
     }
 }

@@ -3,10 +3,9 @@ use Rattle.std.specs.Prelude.{ℕ}
 use Rattle.families.specs.declared.Object.{Object}
 use Rattle.families.specs.declared.Op.{Op}
 use Rattle.families.specs.declared.Ret.{Ret}
+use Rattle.recording.specs.declared.consistency_tester.After.{After}
 use Rattle.recording.specs.declared.linearizability.LinearizabilityTester.{LinearizabilityTester}
-use Rattle.recording.specs.declared.linearizability.After.{After as LAfter}
 use Rattle.recording.specs.declared.sequential_consistency.SequentialConsistencyTester.{SequentialConsistencyTester}
-use Rattle.recording.specs.declared.sequential_consistency.After.{After as SAfter}
 use Rattle.stepping.specs.EventSteps.{number_of, made_number_of}
 use Rattle.recording.specs.Testers.{new_sequential, sequential_invoke, sequential_return, sequential_invret, sequential_len}
 use Rattle.recording.specs.Testers.{new_linearizability, linearizability_invoke, linearizability_return, linearizability_invret, linearizability_len}
@@ -24,7 +23,7 @@ abbrev pub joined_of : ℕ → LinearizabilityTester → ℕ → SequentialConsi
 joined_of a l b s =
     record { linearizability = answer a (linearizability_len l); sequential = answer b (sequential_len s); testers = both l s }
 
-abbrev pub recorded_of : LAfter → SAfter → Answers
+abbrev pub recorded_of : After LinearizabilityTester → After SequentialConsistencyTester → Answers
 recorded_of l s = joined_of (number_of l.recorded) l.tester (number_of s.recorded) s.tester
 
 unfoldable pub new_of : Object → Answers

@@ -2,13 +2,14 @@
 #![tactic(auto)]
 
 ghost use Rattle.std.specs.Prelude.{◌≡◌};
-ghost use Rattle.testers.specs.PairedCalls.{joined_of, recorded_of, new_of, invoke_of, return_of, invret_of};
+ghost use Rattle.recording.specs.Calls.{held_by};
+ghost use Rattle.testers.specs.PairedCalls.{answer, joined_of, recorded_of, new_of, invoke_of, return_of, invret_of};
 
 use families::{Object, Op, Ret};
+use recording::consistency_tester::{After, ConsistencyTester};
 use recording::linearizability::LinearizabilityTester;
 use recording::sequential_consistency::SequentialConsistencyTester;
-use recording::{linearizability, sequential_consistency};
-use stepping::recorded::{made_number, number};
+use stepping::recorded::number;
 
 #[derive(Clone, Copy)]
 pub struct Testers {
@@ -16,11 +17,24 @@ pub struct Testers {
     pub sequential: SequentialConsistencyTester,
 }
 
-// The number that a call gave, and how many operations the tester then holds.
-#[derive(Clone, Copy)]
+// The number that a call gave, 0 where it refused nothing, and how many operations the tester then holds. Events and
+// starts are refused for reasons of their own; a list tells both by document 01's number, and so does the definition `answer`.
+#[derive(Clone, Copy, Debug, PartialEq, Eq)]
 pub struct Answer {
     pub number: u8,
     pub len: usize,
+}
+
+impl Answer {
+    // What a call that gave the number and left that tester comes to.
+    fn of<T: ConsistencyTester>(number: u8, tester: T) -> Answer
+        ensures { result ≡ answer number (held_by T.shaped T.held tester) }
+    {
+        Answer {
+            number,
+            len: tester.len(),
+        }
+    }
 }
 
 // What both answered, and both as the call left them.
@@ -39,33 +53,25 @@ fn joined(
 ) -> Answers
     ensures { result ≡ joined_of first linearizability second sequential }
 {
-    let a = Answer {
-        number: first,
-        len: linearizability.len(),
-    };
-    let b = Answer {
-        number: second,
-        len: sequential.len(),
-    };
-    let testers = Testers {
-        linearizability,
-        sequential,
-    };
     Answers {
-        linearizability: a,
-        sequential: b,
-        testers,
+        linearizability: Answer::of(first, linearizability),
+        sequential: Answer::of(second, sequential),
+        testers: Testers {
+            linearizability,
+            sequential,
+        },
     }
 }
 
-fn recorded(first: linearizability::After, second: sequential_consistency::After) -> Answers
+fn recorded(
+    first: After<LinearizabilityTester>,
+    second: After<SequentialConsistencyTester>,
+) -> Answers
     ensures { result ≡ recorded_of first second }
 {
-    let a = first.recorded;
-    let b = second.recorded;
-    let linearizability = first.tester;
-    let sequential = second.tester;
-    joined(number(a), linearizability, number(b), sequential)
+    let a = number(first.recorded);
+    let b = number(second.recorded);
+    joined(a, first.tester, b, second.tester)
 }
 
 impl Testers {
@@ -75,43 +81,38 @@ impl Testers {
     {
         let first = LinearizabilityTester::new(start);
         let second = SequentialConsistencyTester::new(start);
-        let a = first.made;
-        let b = second.made;
-        let linearizability = first.tester;
-        let sequential = second.tester;
-        joined(made_number(a), linearizability, made_number(b), sequential)
+        let a = number(first.made);
+        let b = number(second.made);
+        joined(a, first.tester, b, second.tester)
     }
 
+    #[tactic(auto, unfolding(crate::specs::PairedCalls::invoke_of))]
     pub fn on_invoke(self, thread: u32, op: Op) -> Answers
         ensures { result ≡ invoke_of self thread op }
     {
-        let linearizability = self.linearizability;
-        let sequential = self.sequential;
         recorded(
-            linearizability.on_invoke(thread, op),
-            sequential.on_invoke(thread, op),
+            self.linearizability.on_invoke(thread, op),
+            self.sequential.on_invoke(thread, op),
         )
     }
 
+    #[tactic(auto, unfolding(crate::specs::PairedCalls::return_of))]
     pub fn on_return(self, thread: u32, ret: Ret) -> Answers
         ensures { result ≡ return_of self thread ret }
     {
-        let linearizability = self.linearizability;
-        let sequential = self.sequential;
         recorded(
-            linearizability.on_return(thread, ret),
-            sequential.on_return(thread, ret),
+            self.linearizability.on_return(thread, ret),
+            self.sequential.on_return(thread, ret),
         )
     }
 
+    #[tactic(auto, unfolding(crate::specs::PairedCalls::invret_of))]
     pub fn on_invret(self, thread: u32, op: Op, ret: Ret) -> Answers
         ensures { result ≡ invret_of self thread op ret }
     {
-        let linearizability = self.linearizability;
-        let sequential = self.sequential;
         recorded(
-            linearizability.on_invret(thread, op, ret),
-            sequential.on_invret(thread, op, ret),
+            self.linearizability.on_invret(thread, op, ret),
+            self.sequential.on_invret(thread, op, ret),
         )
     }
 }

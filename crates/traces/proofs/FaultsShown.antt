@@ -9,17 +9,18 @@ use Rattle.objects.specs.Stack.{stack_ret_coded, depth_check, low_check, stack_r
 use Rattle.families.specs.Families.{answers, right, after, same_ret}
 use Rattle.families.specs.Codes.{ret_coded}
 use Rattle.families.specs.Family.{family_of, op_family, ret_family, family_number}
-use Rattle.values.specs.Checks.{number_of as refusal_number, is_clear, in_order}
+use Rattle.values.specs.Checks.{number_of as refusal_number, in_order}
 use Rattle.families.specs.Refusals.{family_check, op_belongs, ret_belongs, start_check, shape_check, size_check, room_check, took_room, step_room}
 use Rattle.families.specs.Placing.{held_of, kind_of, answer_of, right_of, held_after, leaves_of}
 use Rattle.families.specs.Objects.{zeros, new_register, new_stack, stand_in}
 use Rattle.families.specs.States.{state_of}
 use Rattle.stepping.specs.Record.{fresh, is_pending, flying_by, flying_from, find_flying}
 use Rattle.stepping.specs.Shape.{shaped_with, done_by, count_done, notable, all_below, outcome_fits, operation_fits, operations_fit, none_of, flying_last, counts_right, shape_of, notes_fit, notes_fit_from}
-use Rattle.stepping.specs.EventSteps.{reason_number, number_of, made_number_of, is_taken, begun_of, invoke_of, return_of, size_of}
-use Rattle.recording.specs.Testers.{new_sequential, sequential_invoke, sequential_return, sequential_invret, sequential_len, shaped_tester, new_linearizability, linearizability_invoke, linearizability_return, linearizability_invret, linearizability_len}
+use Rattle.stepping.specs.EventSteps.{reason_number, number_of, made_number_of, begun_of, invoke_of, return_of, size_of}
+use Rattle.recording.specs.Calls.{held_by, in_turn}
+use Rattle.recording.specs.Testers.{new_sequential, sequential_invoke, sequential_return, shaped_tester, new_linearizability, linearizability_invoke, linearizability_return}
 use Rattle.shape.specs.Notes.{notes_in, notes_with}
-use Rattle.judging.specs.Answers.{without_order, told_of, judged_of, judge_of}
+use Rattle.judging.specs.Answers.{without_order, told_of, judged_of, judge_with}
 use Rattle.recording_meaning.specs.Reading.{rows_of, notes_of}
 use Rattle.recording_meaning.specs.Models.{sequential_model, linearizability_model}
 use Rattle.recording.specs.declared.linearizability.LinearizabilityTester.{LinearizabilityTester}
@@ -27,7 +28,7 @@ use Rattle.recording.specs.declared.sequential_consistency.SequentialConsistency
 use Rattle.semantics.specs.Calls.{invoke_check, step_check, invoke_of as bare_invoke, step_of, answer_by, left_by}
 use Rattle.semantics.specs.Histories.{taken, history_of}
 use Rattle.witness.specs.Words.{words_of}
-use Rattle.witness.specs.Checking.{same_words, replays, check_of}
+use Rattle.witness.specs.Checking.{same_words, replays, check_with}
 use Rattle.faults.specs.Records.{counters, one_note, record_of, starting, filled, asked, returned, noting, flying, overtaken, held}
 use Rattle.traces.specs.Faults.{GetsNine, Fault, Outcome, expected, found, without_notes, SequentialToo, Shown, AllShown, BareNine, Full, Constructs}
 use Rattle.traces.specs.FaultList.{faults, NineShown}
@@ -35,8 +36,8 @@ use Rattle.traces.specs.FaultList.{faults, NineShown}
 -- Out of shape is all that the row asks for.
 
 linearizability_nine : (s : LinearizabilityTester) → shaped_tester s ≡ false → GetsNine linearizability_model s
-unfolding linearizability_invoke linearizability_return linearizability_invret linearizability_len invoke_of return_of is_taken reason_number number_of size_of
-    judge_of check_of
+unfolding linearizability_invoke linearizability_return in_turn held_by invoke_of return_of reason_number number_of size_of
+    judge_with check_with
 linearizability_nine s e = record {
   on_invoke = λ t op. rw e (refl, refl);
   on_return = λ t ret. rw e (refl, refl);
@@ -47,7 +48,7 @@ linearizability_nine s e = record {
 }
 
 sequential_nine : (s : SequentialConsistencyTester) → shaped_with true s.history ≡ false → GetsNine sequential_model s
-unfolding sequential_invoke sequential_return sequential_invret sequential_len invoke_of return_of is_taken reason_number number_of size_of judge_of check_of
+unfolding sequential_invoke sequential_return in_turn held_by invoke_of return_of reason_number number_of size_of judge_with check_with
 sequential_nine s e = record {
   on_invoke = λ t op. rw e (refl, refl);
   on_return = λ t ret. rw e (refl, refl);
@@ -97,11 +98,11 @@ all_shown (x ∷ xs) e = (shown x (cc), all_shown xs (cc))
 
 testers_shown : AllShown faults
 unfolding zigzag same_coded register_answer register_after register_ret_coded depth_check low_check ret_coded answers right after same_ret family_of op_family
-    ret_family family_number family_check op_belongs ret_belongs is_clear start_check shape_check size_check in_order new_register new_stack state_of is_pending
+    ret_family family_number family_check op_belongs ret_belongs start_check shape_check size_check in_order new_register new_stack state_of is_pending
     flying_by flying_from find_flying done_by count_done notable all_below outcome_fits operation_fits operations_fit none_of flying_last counts_right shape_of
-    notes_fit notes_fit_from notes_in notes_with reason_number number_of is_taken invoke_of return_of size_of sequential_invoke sequential_return sequential_len
-    linearizability_invoke linearizability_return linearizability_len rows_of notes_of without_order told_of judged_of judge_of sequential_invret
-    linearizability_invret words_of same_words replays check_of counters one_note record_of starting filled asked returned noting flying overtaken held
+    notes_fit notes_fit_from notes_in notes_with reason_number number_of invoke_of return_of size_of sequential_invoke sequential_return held_by
+    linearizability_invoke linearizability_return rows_of notes_of without_order told_of judged_of judge_with in_turn
+    words_of same_words replays check_with counters one_note record_of starting filled asked returned noting flying overtaken held
 testers_shown = all_shown faults refl
 
 bare_nine : BareNine (new_stack zeros (room + 1))

@@ -9,14 +9,15 @@ use Rattle.objects.specs.Stack.{stack_answer, stack_after, stack_ret_coded, dept
 use Rattle.families.specs.Families.{answers, right, after, same_ret}
 use Rattle.families.specs.Codes.{ret_coded}
 use Rattle.families.specs.Family.{family_of, op_family, ret_family, family_number}
-use Rattle.values.specs.Checks.{number_of as refusal_number, is_clear, in_order}
+use Rattle.values.specs.Checks.{number_of as refusal_number, in_order}
 use Rattle.families.specs.Refusals.{family_check, op_belongs, ret_belongs, start_check, shape_check, size_check}
 use Rattle.families.specs.Objects.{new_register, new_once, new_stack}
 use Rattle.families.specs.States.{state_of}
 use Rattle.stepping.specs.Record.{fresh, is_pending, flying_by, flying_from, find_flying}
 use Rattle.stepping.specs.Shape.{done_by, count_done, notable, all_below, outcome_fits, operation_fits, operations_fit, none_of, flying_last, counts_right, shape_of, notes_fit, notes_fit_from}
-use Rattle.stepping.specs.EventSteps.{reason_number, number_of, is_taken, breaks, valid_after, begun_of, invoke_of, return_of, size_of}
-use Rattle.recording.specs.Testers.{new_sequential, sequential_invoke, sequential_return, sequential_len, new_linearizability, linearizability_invoke, linearizability_return, linearizability_len}
+use Rattle.stepping.specs.EventSteps.{reason_number, number_of, breaks, valid_after, begun_of, invoke_of, return_of, size_of}
+use Rattle.recording.specs.Calls.{held_by}
+use Rattle.recording.specs.Testers.{new_sequential, sequential_invoke, sequential_return, new_linearizability, linearizability_invoke, linearizability_return}
 use Rattle.shape.specs.Notes.{notes_in, notes_with}
 use Rattle.recording_meaning.specs.Reading.{rows_of, notes_of}
 use Rattle.recording_meaning.specs.Models.{Model, sequential_model, linearizability_model}
@@ -24,7 +25,7 @@ use Rattle.recording_meaning.specs.Inputs.{Inputs, feed}
 use Rattle.recording_meaning.specs.Meaning.{Means}
 use Rattle.recording_meaning.proofs.Meant.{sequential_meaning, linearizability_meaning}
 use Rattle.judging.specs.declared.answer.Verdict.TheVariants.{Invalid}
-use Rattle.judging.specs.Answers.{without_order, told_of, judged_of, judge_of}
+use Rattle.judging.specs.Answers.{without_order, told_of, judged_of, judge_with}
 use Rattle.traces.specs.Traces.{Expectation, Outcome, expected, found, AllHold, trace_10, covers, expect, traces}
 use Rattle.traces.specs.Later.{all_ignored}
 
@@ -46,10 +47,10 @@ module _ (M : Model) where
 -- The one claim over the list.
 pub all_hold : (later : Inputs) → AllHold (traces later)
 unfolding zigzag eq_z maybe_coded same_coded register_answer register_after register_ret_coded writes write_answer once_answer once_after once_ret_coded stack_answer stack_after
-    stack_ret_coded depth_check low_check held_values ret_coded answers right after same_ret refusal_number family_of op_family ret_family family_number family_check op_belongs ret_belongs is_clear start_check shape_check size_check in_order new_register new_once new_stack state_of fresh is_pending flying_by
+    stack_ret_coded depth_check low_check held_values ret_coded answers right after same_ret refusal_number family_of op_family ret_family family_number family_check op_belongs ret_belongs start_check shape_check size_check in_order new_register new_once new_stack state_of fresh is_pending flying_by
     flying_from find_flying done_by count_done notable all_below outcome_fits operation_fits operations_fit none_of flying_last counts_right shape_of notes_fit
-    notes_fit_from notes_in reason_number number_of is_taken breaks valid_after begun_of invoke_of return_of size_of new_sequential sequential_invoke sequential_return sequential_len
-    new_linearizability notes_with linearizability_invoke linearizability_return linearizability_len rows_of notes_of without_order told_of judged_of judge_of
+    notes_fit_from notes_in reason_number number_of breaks valid_after begun_of invoke_of return_of size_of new_sequential sequential_invoke sequential_return held_by
+    new_linearizability notes_with linearizability_invoke linearizability_return rows_of notes_of without_order told_of judged_of judge_with
 all_hold later =
     rw (
       ten_holds sequential_model sequential_meaning (record { places = refl; counters = refl }) refl refl refl later,

@@ -1,8 +1,7 @@
 -- Number 9 of document 01, "record out of shape": for each cause in its row records that show it, and beside each the same record without the fault, so
 -- that the fault is what is seen.
-use Rattle.std.specs.Prelude.{ℕ, zero, suc, ◌+◌, ◌-◌, Bool, true, false, List, [], ◌∷◌, ◌++◌, map, length, replicate, pos}
+use Rattle.std.specs.Prelude.{ℕ, zero, suc, ◌+◌, ◌-◌, Bool, true, false, List, [], ◌∷◌, ◌++◌, map, length, replicate, pos, None}
 use Rattle.values.specs.Sizes.{room, threads, capacity, start_room}
-use Rattle.values.specs.declared.value.Maybe.TheVariants.{Nothing}
 use Rattle.families.specs.declared.Op.{Op}
 use Rattle.families.specs.declared.Op.TheVariants.{Register as ORegister, Vec as OVec}
 use Rattle.families.specs.declared.Ret.{Ret}
@@ -27,7 +26,7 @@ abbrev pop : Op
 pop = OVec Pop
 
 abbrev popped : Ret
-popped = RVec (PopOk Nothing)
+popped = RVec (PopOk None)
 
 -- of a register; the neighbour takes an operation, and has no return to take
 abbrev entry : Bool → LinearizabilityTester → LinearizabilityTester → ℕ → List ℕ → Fault

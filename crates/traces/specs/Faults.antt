@@ -1,5 +1,5 @@
 -- What document 01's row 9 says of records out of shape, of bare objects and of constructors; and what is to come, instead, of what has no fault.
-use Rattle.std.specs.Prelude.{ℕ, ◌+◌, ◌-◌, ◌≡◌, Bool, true, false, List, [], ◌∷◌, ◌++◌, pos}
+use Rattle.std.specs.Prelude.{ℕ, ◌+◌, ◌-◌, ◌≡◌, Bool, true, false, List, [], ◌∷◌, ◌++◌, pos, Ok, Err}
 use Rattle.values.specs.Sizes.{room, threads, start_room}
 use Rattle.values.specs.Checks.{number_of as refusal_number}
 use Rattle.families.specs.Objects.{zeros, new_stack}
@@ -11,8 +11,6 @@ use Rattle.families.specs.declared.Ret.TheVariants.{Vec as RVec}
 use Rattle.objects.specs.declared.vec.VecOp.TheVariants.{Push, Len}
 use Rattle.objects.specs.declared.vec.VecRet.TheVariants.{PushOk, LenOk}
 use Rattle.values.specs.declared.refusal.Refusal.TheVariants.{OutOfShape, NoRoom}
-use Rattle.semantics.specs.declared.Answer.TheVariants.{Returned, Refused as ARefused}
-use Rattle.semantics.specs.declared.Said.TheVariants.{Yes, Refused as SRefused}
 use Rattle.semantics.specs.Calls.{invoked, invoke_of, stepped, step_of}
 use Rattle.semantics.specs.Histories.{Turn, history_of}
 use Rattle.stepping.specs.Record.{fresh}
@@ -102,9 +100,9 @@ AllShown (x ∷ xs) = Shown x × AllShown xs
 -- Bare objects: depth over 96 gives 9 for `invoke`, for a step and for a history, even one of no steps, and the object as it came.
 pub record BareNine (o : Object) : Type 0 where
   pub number : refusal_number OutOfShape ≡ 9
-  pub invoking : (op : Op) → invoke_of o op ≡ invoked (ARefused OutOfShape) o
-  pub stepping : (op : Op) (ret : Ret) → step_of o op ret ≡ stepped (SRefused OutOfShape) o
-  pub walking : (ts : List Turn) → history_of o ts ≡ stepped (SRefused OutOfShape) o
+  pub invoking : (op : Op) → invoke_of o op ≡ invoked (Err OutOfShape) o
+  pub stepping : (op : Op) (ret : Ret) → step_of o op ret ≡ stepped (Err OutOfShape) o
+  pub walking : (ts : List Turn) → history_of o ts ≡ stepped (Err OutOfShape) o
 
 abbrev pub stack : ℕ → Object
 stack d = new_stack zeros d
@@ -112,11 +110,11 @@ stack d = new_stack zeros d
 -- The neighbour, a full stack: 7 for a Push, and all else goes on.
 pub record Full (o : Object) : Type 0 where
   pub number : refusal_number NoRoom ≡ 7
-  pub push : invoke_of o (OVec (Push (pos 1))) ≡ invoked (ARefused NoRoom) o
-  pub push_ok : step_of o (OVec (Push (pos 1))) (RVec PushOk) ≡ stepped (SRefused NoRoom) o
-  pub len : invoke_of o (OVec Len) ≡ invoked (Returned (RVec (LenOk room))) o
-  pub len_ok : step_of o (OVec Len) (RVec (LenOk room)) ≡ stepped Yes o
-  pub no_steps : history_of o [] ≡ stepped Yes o
+  pub push : invoke_of o (OVec (Push (pos 1))) ≡ invoked (Err NoRoom) o
+  pub push_ok : step_of o (OVec (Push (pos 1))) (RVec PushOk) ≡ stepped (Err NoRoom) o
+  pub len : invoke_of o (OVec Len) ≡ invoked (Ok (RVec (LenOk room))) o
+  pub len_ok : step_of o (OVec Len) (RVec (LenOk room)) ≡ stepped (Ok true) o
+  pub no_steps : history_of o [] ≡ stepped (Ok true) o
 
 -- A constructor given a stack of depth d gives a number, and leaves a fresh history of a stack of depth e.
 pub record Makes (M : Model) (d n e : ℕ) : Type 0 where

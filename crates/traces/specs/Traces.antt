@@ -1,9 +1,8 @@
 -- The traces of document 01 that are proved of the meanings: what each draws from a fresh tester, and what a judge then answers.
-use Rattle.std.specs.Prelude.{ℕ, ◌-◌, ◌^◌, ◌≡◌, List, [], ◌∷◌, ◌++◌, map, length, replicate, pos}
+use Rattle.std.specs.Prelude.{ℕ, ◌-◌, ◌^◌, ◌≡◌, List, [], ◌∷◌, ◌++◌, map, length, replicate, pos, None}
 use Rattle.history.specs.Events.{Events, invoked, returned}
 use Rattle.families.specs.Objects.{zeros, new_register, new_once, new_stack}
 use Rattle.families.specs.Families.{families}
-use Rattle.values.specs.declared.value.Maybe.TheVariants.{Nothing}
 use Rattle.families.specs.declared.Object.{Object}
 use Rattle.families.specs.declared.Op.{Op}
 use Rattle.families.specs.declared.Op.TheVariants.{Register as ORegister, WORegister as OWORegister, Vec as OVec}
@@ -99,7 +98,7 @@ abbrev pop : Op
 pop = OVec Pop
 
 abbrev pop_nothing : Ret
-pop_nothing = RVec (PopOk Nothing)
+pop_nothing = RVec (PopOk None)
 
 -- The traces.
 
@@ -145,7 +144,7 @@ trace_7_then = recorded register (events_in trace_7.inputs ++ (invoked 1 (write 
 
 -- 8. Write-once from nothing, overlapping writes 5 and 6 by T0 and T1, both WriteOk.
 abbrev trace_8 : Trace
-trace_8 = recorded (new_once Nothing) (invoked 0 (once 5) ∷ invoked 1 (once 6) ∷ returned 0 once_ok ∷ returned 1 once_ok ∷ [])
+trace_8 = recorded (new_once None) (invoked 0 (once 5) ∷ invoked 1 (once 6) ∷ returned 0 once_ok ∷ returned 1 once_ok ∷ [])
 
 -- 9. Empty stack, overlapping Push(1) by T0 and Pop nothing by T1.
 abbrev trace_9 : Trace

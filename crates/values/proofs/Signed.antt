@@ -1,13 +1,6 @@
 -- Signed values and their bits.
-use Rattle.std.proofs.Common.{ℕ, zero, suc, ◌/◌, ◌<◌, ◌^◌, ◌≡◌, refl, ap, ◌∙◌, arith, zero-add, ℤ, pos, negsuc, ◌-ℤ◌, w32, to_z, of_z, SFits, to_z-of_z}
-use Rattle.std.specs.Int.Signed.{mag}
-use mir.Val.{hbits}
+use Rattle.std.proofs.Common.{ℕ, zero, suc, ◌/◌, ◌<◌, ◌≡◌, refl, ap, arith, zero-add, pos, negsuc, ◌-ℤ◌, w32, to_z, SFits}
 use mir.ValLaws.{to_z_pos}
-use Rattle.values.specs.Value.{signed}
-
--- the number of the bits of a value is the value
-pub told : (z : ℤ) (n : ℕ) → mag z < 2 ^ hbits w32 → z ≡ signed n → to_z w32 (of_z w32 z) ≡ signed n
-told z n h e = to_z-of_z {w = w32} (record { sfits = h }) ∙ e
 
 -- half of a number
 

@@ -1,12 +1,14 @@
 -- The tests for "the same" value and the same numbers are equality.
-use Rattle.std.specs.Prelude.{ℕ, ◌≡◌, refl, Bool, true, false, eqb}
+use Rattle.std.specs.Prelude.{ℕ, ◌≡◌, refl, Bool, true, false, eqb, ℤ, Option, Some, None}
 use Rattle.std.proofs.Common.{sym, ap, ◌∙◌, eq-eqb, eqb-true, arith}
+use Rattle.std.specs.Bool.{one_answer}
+use Rattle.std.specs.Cmp.{signed_Decides}
+use Rattle.std.specs.Option.{option_eq}
+use Rattle.std.specs.Ordering.{int_eq}
 use Rattle.values.specs.Value.{pick, zigzag, signed, eq_z, same_maybe}
 use Rattle.values.specs.Coded.{coded, maybe_coded, same_coded}
 use Rattle.values.specs.Sent.{sent_back}
 use Rattle.values.specs.declared.coded.Coded.{Coded}
-use Rattle.values.specs.declared.value.Maybe.{Maybe}
-use Rattle.values.specs.declared.value.Maybe.TheVariants.{Nothing, Value}
 
 -- a test that is true exactly for equal values
 pub record Decides {A : Type 0} (same : A → A → Bool) : Type 0 where
@@ -19,6 +21,18 @@ values = record {
   equal = λ a b h. sym (sent_back a) ∙ ap signed (eqb-true (zigzag a) (zigzag b) h) ∙ sent_back b;
   self = λ a. eq-eqb (zigzag a) (zigzag a) refl;
 }
+
+-- what `==` says of two values
+pub int_eq_same : (a b : ℤ) → int_eq a b ≡ eq_z a b
+int_eq_same a b = one_answer _ _ (signed_Decides a b) (values.equal a b, λ h. rw h (values.self b))
+
+-- and of nothing or a value
+pub option_eq_same : (a b : Option ℤ) → option_eq int_eq a b ≡ same_maybe a b
+unfolding same_maybe
+option_eq_same None None = refl
+option_eq_same None (Some b) = refl
+option_eq_same (Some a) None = refl
+option_eq_same (Some a) (Some b) = int_eq_same a b
 
 -- a choice that is true only by its first test
 pub both : (a b : Bool) → pick a b false ≡ true → (a ≡ true) × (b ≡ true)
@@ -41,9 +55,9 @@ numbers = record {
         ap (λ (i : ℕ). coded i a.count a.word) n ∙ ap (λ (i : ℕ). coded b.number i a.word) c ∙ ap (coded b.number b.count) w
 
 -- of nothing or a value
-pub maybe_same : (n : ℕ) (a b : Maybe) → same_coded (maybe_coded n a) (maybe_coded n b) ≡ same_maybe a b
+pub maybe_same : (n : ℕ) (a b : Option ℤ) → same_coded (maybe_coded n a) (maybe_coded n b) ≡ same_maybe a b
 unfolding same_coded maybe_coded same_maybe eq_z
-maybe_same n Nothing Nothing = rw (eq-eqb n n refl)
-maybe_same n Nothing (Value b) = rw (eq-eqb n n refl)
-maybe_same n (Value a) Nothing = rw (eq-eqb n n refl)
-maybe_same n (Value a) (Value b) = rw (eq-eqb n n refl)
+maybe_same n None None = rw (eq-eqb n n refl)
+maybe_same n None (Some b) = rw (eq-eqb n n refl)
+maybe_same n (Some a) None = rw (eq-eqb n n refl)
+maybe_same n (Some a) (Some b) = rw (eq-eqb n n refl)

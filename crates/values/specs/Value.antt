@@ -1,8 +1,6 @@
 -- Values: when two are the same, how a value is sent as a number, a choice by a test, and that a promise which is an equation leaves one outcome.
-use Rattle.std.specs.Prelude.{ℕ, ◌+◌, ◌*◌, ◌/◌, ◌%◌, ◌≡◌, Bool, true, false, ℤ, pos, negsuc, eqb}
+use Rattle.std.specs.Prelude.{ℕ, ◌+◌, ◌*◌, ◌/◌, ◌%◌, ◌≡◌, Bool, true, false, ℤ, pos, negsuc, eqb, Option, Some, None}
 use Rattle.std.proofs.Common.{sym, ◌∙◌}
-use Rattle.values.specs.declared.value.Maybe.{Maybe}
-use Rattle.values.specs.declared.value.Maybe.TheVariants.{Nothing, Value}
 
 abbrev pub pick : {A : Type 0} → Bool → A → A → A
 pick true a b = a
@@ -21,11 +19,11 @@ signed n = pick (eqb (n % 2) 0) (pos (n / 2)) (negsuc (n / 2))
 unfoldable pub eq_z : ℤ → ℤ → Bool
 eq_z a b = eqb (zigzag a) (zigzag b)
 
-unfoldable pub same_maybe : Maybe → Maybe → Bool
-same_maybe Nothing Nothing = true
-same_maybe Nothing (Value b) = false
-same_maybe (Value a) Nothing = false
-same_maybe (Value a) (Value b) = eq_z a b
+unfoldable pub same_maybe : Option ℤ → Option ℤ → Bool
+same_maybe None None = true
+same_maybe None (Some b) = false
+same_maybe (Some a) None = false
+same_maybe (Some a) (Some b) = eq_z a b
 
 -- Where the promise of a call is that what it hands back equals a definition, no second outcome satisfies it.
 pub one_outcome : {A : Type 0} {defined a b : A} → a ≡ defined → b ≡ defined → a ≡ b

@@ -1,8 +1,8 @@
-// Why an object, an operation or a return is refused.
+// Why an object, an operation or a return is refused. A check answers `Result<(), Refusal>`.
 ghost use Rattle.std.specs.Prelude.{◌≡◌};
-ghost use Rattle.values.specs.Checks.{number_of, is_clear, in_order};
+ghost use Rattle.values.specs.Checks.{number_of};
 
-#[derive(Clone, Copy)]
+#[derive(Clone, Copy, Debug, PartialEq, Eq)]
 pub enum Refusal {
     OtherFamily,
     NoRoom,
@@ -10,39 +10,17 @@ pub enum Refusal {
     OutOfShape,
 }
 
-#[derive(Clone, Copy)]
-pub enum Check {
-    Clear,
-    Refused(Refusal),
-}
-
 // The number of a refusal in document 01.
-pub fn number(refusal: Refusal) -> u8
-    ensures { result ≡ number_of refusal }
-{
-    match refusal {
-        Refusal::OtherFamily => 3,
-        Refusal::NoRoom => 7,
-        Refusal::StartTooDeep => 8,
-        Refusal::OutOfShape => 9,
-    }
-}
+impl From<Refusal> for u8 {
+    ghost from_gives = { λ refusal n. n ≡ number_of refusal };
 
-pub fn is_clear(check: Check) -> bool
-    ensures { result ≡ is_clear check }
-{
-    match check {
-        Check::Clear => true,
-        Check::Refused(_) => false,
-    }
-}
-
-// The first refusal of two checks.
-pub fn in_order(first: Check, second: Check) -> Check
-    ensures { result ≡ in_order first second }
-{
-    match first {
-        Check::Clear => second,
-        Check::Refused(_) => first,
+    #[tactic(auto, unfolding(crate::specs::Checks::number_of))]
+    fn from(refusal: Refusal) -> u8 {
+        match refusal {
+            Refusal::OtherFamily => 3,
+            Refusal::NoRoom => 7,
+            Refusal::StartTooDeep => 8,
+            Refusal::OutOfShape => 9,
+        }
     }
 }

@@ -4,7 +4,7 @@
 pub const ROOM: usize = 96;
 
 // The same as a depth.
-pub const FULL: u32 = 96;
+pub const FULL: u32 = ROOM as u32;
 
 // Threads are numbered from 0 up to one less than this.
 pub const THREADS: usize = 8;

@@ -5,7 +5,6 @@
 
 mod bare;
 mod files;
-mod orders;
 mod records;
 mod script;
 mod seen;
@@ -16,10 +15,11 @@ mod verdicts;
 use lists::input::read_full;
 use std::{fs, io};
 
-// Room for the traces.
+// Room for the traces. Memory is fixed, so that reading them can't want for it.
 const TEXT: usize = 16384;
 
-// Handed out by a function, so that only its length is known where it is lent.
+// Handed out by a function, so that only its length is known where it is lent. As replay's, of another length: one for both
+// would be public in lists and owe a clause, which the check would go through byte by byte.
 fn blank() -> [u8; TEXT] {
     [0; TEXT]
 }

@@ -1,106 +1,72 @@
-// Events and what they are answered, in words.
-use lists::events::{BOTH, Event, RETURN, event_at};
-use lists::fields::NONE;
-use lists::telling::{say, tell};
-use std::io;
-use testers::Answer;
-use values::coded::Coded;
+// Operations and returns in words.
+use families::family::Family;
+use families::{Op, Ret};
+use objects::register::{RegisterOp, RegisterRet};
+use objects::vec::{VecOp, VecRet};
+use objects::write_once_register::{WORegisterOp, WORegisterRet};
+use std::fmt;
 
-// How events are told: not at all, in words, or with what they are answered.
-const SILENT: u64 = 0;
-
-const ANSWERED: u64 = 2;
-
-// The place in a table that has three names to a family.
-fn name_of(family: u64, number: u32) -> u64 {
-    if family <= 2 {
-        return family * 3 + number as u64;
-    }
-    NONE
+// An operation on an object of that family. Without a family it has no name.
+#[derive(Clone, Copy)]
+pub struct Operation {
+    pub family: Option<Family>,
+    pub op: Op,
 }
 
-fn say_op(rt: &impl Print, family: u64, op: Coded) -> io::Result<()> {
-    tell(
-        rt,
-        b"Write(@)/Read//Write(@)/Read//Push(@)/Pop/Len/",
-        name_of(family, op.number),
-        op.word as u64,
-        0,
-    )
-}
-
-// The value that is carried.
-fn carried(coded: Coded) -> u64 {
-    if coded.count == 0 {
-        return NONE;
-    }
-    coded.word as u64
-}
-
-pub fn say_ret(rt: &impl Print, family: u64, ret: Coded) -> io::Result<()> {
-    tell(
-        rt,
-        b"WriteOk/ReadOk(@)//WriteOk/WriteFail/ReadOk(@)/PushOk/PopOk(@)/LenOk(%)/",
-        name_of(family, ret.number),
-        carried(ret),
-        0,
-    )
-}
-
-fn say_event(rt: &impl Print, family: u64, event: Event) -> io::Result<()> {
-    let op = event.op;
-    let ret = event.ret;
-    tell(
-        rt,
-        b"/T% invokes /T% returns /T% invokes /",
-        event.lead,
-        event.thread as u64,
-        0,
-    )?;
-    if event.lead == RETURN {
-        return say_ret(rt, family, ret);
-    }
-    say_op(rt, family, op)?;
-    if event.lead == BOTH {
-        say(rt, b" and returns ")?;
-        say_ret(rt, family, ret)?;
-    }
-    Ok(())
-}
-
-// Whether the testers answer alike, 0, or not, 1.
-fn differs(a: Answer, b: Answer) -> u64 {
-    if a.number == b.number {
-        if a.len == b.len {
-            return 0;
+impl fmt::Display for Operation {
+    fn fmt<W: fmt::Write>(&self, f: &mut fmt::Formatter<W>) -> fmt::Result {
+        if self.family.is_none() {
+            return Ok(());
+        }
+        match self.op {
+            Op::Register(RegisterOp::Write(v)) | Op::WORegister(WORegisterOp::Write(v)) => {
+                write!(f, "Write({v})")
+            }
+            Op::Register(RegisterOp::Read) | Op::WORegister(WORegisterOp::Read) => {
+                write!(f, "Read")
+            }
+            Op::Vec(VecOp::Push(v)) => write!(f, "Push({v})"),
+            Op::Vec(VecOp::Pop) => write!(f, "Pop"),
+            Op::Vec(VecOp::Len) => write!(f, "Len"),
         }
     }
-    1
 }
 
-// An event, and what the testers of an object of that family answered.
-pub fn tell_event(
-    rt: &impl Print,
-    telling: u64,
-    family: u64,
-    numbers: &[u64],
-    a: Answer,
-    b: Answer,
-) -> io::Result<()> {
-    let event = event_at(family, numbers);
-    if telling == SILENT || !event.good {
-        return Ok(());
+// A return likewise.
+#[derive(Clone, Copy)]
+pub struct Return {
+    pub family: Option<Family>,
+    pub ret: Ret,
+}
+
+// A value, or nothing.
+#[derive(Clone, Copy)]
+struct Value(Option<i32>);
+
+impl fmt::Display for Value {
+    fn fmt<W: fmt::Write>(&self, f: &mut fmt::Formatter<W>) -> fmt::Result {
+        match self.0 {
+            None => write!(f, "nothing"),
+            Some(v) => write!(f, "{v}"),
+        }
     }
-    say_event(rt, family, event)?;
-    if telling == ANSWERED {
-        tell(
-            rt,
-            b": %, len &; /: %, len & (not so for sequential consistency); /",
-            differs(a, b),
-            a.number as u64,
-            a.len as u64,
-        )?;
-        return Ok(());
+}
+
+impl fmt::Display for Return {
+    fn fmt<W: fmt::Write>(&self, f: &mut fmt::Formatter<W>) -> fmt::Result {
+        if self.family.is_none() {
+            return Ok(());
+        }
+        match self.ret {
+            Ret::Register(RegisterRet::WriteOk) | Ret::WORegister(WORegisterRet::WriteOk) => {
+                write!(f, "WriteOk")
+            }
+            Ret::Register(RegisterRet::ReadOk(v)) => write!(f, "ReadOk({v})"),
+            Ret::WORegister(WORegisterRet::WriteFail) => write!(f, "WriteFail"),
+            Ret::WORegister(WORegisterRet::ReadOk(m)) => write!(f, "ReadOk({})", Value(m)),
+            Ret::Vec(VecRet::PushOk) => write!(f, "PushOk"),
+            Ret::Vec(VecRet::PopOk(m)) => write!(f, "PopOk({})", Value(m)),
+            Ret::Vec(VecRet::LenOk(n)) => write!(f, "LenOk({n})"),
+        }
     }
-    say(rt, b"; ")
 }

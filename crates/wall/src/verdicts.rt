@@ -1,78 +1,57 @@
 // What the judges answer, in words.
-use crate::telling::say_ret;
-use families::codes::ret_coded;
-use judging::answer::{Answer, Placed, number};
-use judging::{linearizability, sequential_consistency};
-use lists::telling::{say, tell};
-use std::io;
+use crate::telling::Return;
+use families::family::Family;
+use judging::answer::{Answer, Verdict};
+use judging::judge::judge;
+use std::{fmt, io};
 use testers::Testers;
-use values::sizes::OPERATIONS;
 
-// The text that a verdict has in a table where an order without places follows the four.
-fn text_of(verdict: u8, length: usize) -> u64 {
-    if verdict == 0 {
-        if length == 0 {
-            return 4;
+// The verdict is another crate's, and so is Display.
+pub fn name_of(verdict: Verdict) -> &'static str {
+    match verdict {
+        Verdict::Order => "Order",
+        Verdict::NoOrder => "No order",
+        Verdict::Undecided => "Undecided",
+        Verdict::Invalid => "Invalid",
+    }
+}
+
+// What a judge answers of an object of that family: the verdict, each place of the order with its thread and the return
+// there, and the attempts.
+#[derive(Clone, Copy)]
+struct Told {
+    family: Option<Family>,
+    answer: Answer,
+}
+
+impl fmt::Display for Told {
+    fn fmt<W: fmt::Write>(&self, f: &mut fmt::Formatter<W>) -> fmt::Result {
+        let family = self.family;
+        let length = self.answer.length;
+        write!(f, "{}", name_of(self.answer.verdict))?;
+        if let (Verdict::Order, 0) = (self.answer.verdict, length) {
+            write!(f, ", empty")?;
         }
-    }
-    verdict as u64
-}
-
-// A place of an order: its thread and the return there, and a comma where more follow.
-fn say_placed(rt: &impl Print, family: u64, placed: Placed, more: bool) -> io::Result<()> {
-    let ret = placed.ret;
-    tell(rt, b" % ", 0, placed.thread as u64, 0)?;
-    say_ret(rt, family, ret_coded(ret))?;
-    if more {
-        say(rt, b",")?;
-    }
-    Ok(())
-}
-
-fn say_order(
-    rt: &impl Print,
-    family: u64,
-    length: usize,
-    order: [Placed; OPERATIONS],
-) -> io::Result<()> {
-    let mut i = 0;
-    while i < OPERATIONS {
-        let placed = order[i];
-        i += 1;
-        if i <= length {
-            say_placed(rt, family, placed, i < length)?;
+        for (place, placed) in self.answer.order.iter().take(length).enumerate() {
+            if place > 0 {
+                write!(f, ",")?;
+            }
+            let ret = placed.ret;
+            write!(f, " {} {}", placed.thread, Return { family, ret })?;
         }
+        write!(f, "; attempts {}", self.answer.attempts)
     }
-    Ok(())
-}
-
-fn say_answer(rt: &impl Print, family: u64, answer: Answer) -> io::Result<()> {
-    let verdict = answer.verdict;
-    let order = answer.order;
-    tell(
-        rt,
-        b"Order/No order/Undecided/Invalid/Order, empty/",
-        text_of(number(verdict), answer.length),
-        0,
-        0,
-    )?;
-    say_order(rt, family, answer.length, order)?;
-    tell(rt, b"; attempts %", 0, answer.attempts, 0)
 }
 
 // One line for both models.
-pub fn judge(rt: &impl Print, testers: Testers, family: u64, budget: u64) -> io::Result<()> {
-    say(rt, b"linearizable: ")?;
-    say_answer(
-        rt,
-        family,
-        linearizability::judge(testers.linearizability, budget),
-    )?;
-    say(rt, b" | sequential: ")?;
-    say_answer(
-        rt,
-        family,
-        sequential_consistency::judge(testers.sequential, budget),
-    )?;
-    say(rt, b"\n")
+pub fn tell_verdicts(
+    rt: &impl Print,
+    testers: Testers,
+    family: Option<Family>,
+    budget: u64,
+) -> io::Result<()> {
+    let a = judge(testers.linearizability, budget);
+    let b = judge(testers.sequential, budget);
+    print!(rt; "linearizable: {}", Told { family, answer: a })?;
+    println!(rt; " | sequential: {}", Told { family, answer: b })
 }

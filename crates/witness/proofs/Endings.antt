@@ -1,11 +1,10 @@
 -- Counters against counters: notes that are met, and every completed operation placed.
-use Rattle.std.proofs.Common.{ℕ, zero, suc, ◌+◌, ◌*◌, ◌<◌, ◌≤◌, ◌≡◌, refl, sym, ap, ◌∙◌, Bool, true, false, List, [], zero-add, arith, length, take, drop, replicate, get_or-take, get_or-drop, leb-true, le-leb, ltb-true, ltb-false}
+use Rattle.std.proofs.Common.{ℕ, zero, suc, ◌+◌, ◌*◌, ◌<◌, ◌≤◌, ◌≡◌, refl, sym, ap, ◌∙◌, Bool, true, false, List, [], zero-add, arith, length, take, drop, get_or-take, get_or-drop, leb-true, le-leb, ltb-true, ltb-false}
 use Rattle.std.proofs.Math.ListN.{get_or, get_or-eq_default}
 use Rattle.std.proofs.Math.Seq.{drop-nil}
 use Rattle.std.proofs.Math.Dec.{leb, leb-suc-suc}
 use Rattle.std.specs.Prelude.{ltb}
 use Rattle.std.proofs.lemmas.Bool.{lt-leb}
-use Rattle.history.specs.Lists.{get_d_same}
 use Rattle.history.specs.Rows.{Entry, row, Shaped, empty, in_flight, completed_first}
 use Rattle.history.specs.Recorder.{completed as completed_of}
 use Rattle.history.specs.Space.{met, only_pending, all_placed}
@@ -44,10 +43,6 @@ notes_met notes i ps many =
     omega (arith, of_met (take threads (drop (i * threads) notes)) ps e u (omega arith), at u l)))
     (λ e. met_of (take threads (drop (i * threads) notes)) ps (λ u l.
     omega (arith, of_reaches notes (i * threads) ps e u (omega arith), at u (omega arith))))
-
--- notes of 0 say nothing
-pub zeros_met : (n i : ℕ) (ps : List ℕ) → met [] ps ≡ reaches_of (replicate n 0) (i * threads) ps
-zeros_met n i ps = sym (reaches_of_lem (replicate n 0) (i * threads) ps (λ u l. omega (arith, get_d_same {A = ℕ} n (i * threads + u) 0)))
 
 -- of a row in shape, only an operation in flight is left exactly if as many are placed as are completed
 row_placed : {r : List (Entry families)} (p : ℕ) → Shaped families r → only_pending families (drop p r) ≡ leb (completed_of families r) p

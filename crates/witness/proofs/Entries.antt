@@ -53,6 +53,9 @@ module _ (needs : ℕ → List ℕ) where
   entry_past i zero (o ∷ os) l = absurd (omega arith)
   entry_past i (suc j) (o ∷ os) l = entry_past (suc i) j os (omega arith)
 
+  pub held_many : (h : History) → Sized h → h.count ≤ capacity → length (held h) ≡ h.count
+  held_many h z few = omega (arith, length-take h.count h.ops, z.places)
+
   module _ (h : History) (z : Sized h) (few : h.count ≤ capacity) (ps : List ℕ) (many : length ps ≡ threads) (t : ℕ) where
     next_is : next (rows_of needs h) ps t ≡ nth (row families (rows_of needs h) t) (get_or ps t 0)
     next_is = next_row (rows_of needs h) ps t (many ∙ sym (rows_many needs h))
@@ -69,16 +72,13 @@ module _ (needs : ℕ → List ℕ) where
           ∙ ap (λ (r : List (Entry families)). nth r (get_or ps t 0)) (row_is needs h t low)
           ∙ found_entry 0 (held h) t (get_or ps t 0)
 
-      held_many : length (held h) ≡ h.count
-      held_many = omega (arith, length-take h.count h.ops, z.places)
-
       pub next_there : (i : ℕ) → i ≡ place_of (held h) t (get_or ps t 0) → i < h.count
           → next (rows_of needs h) ps t ≡ some (entry_of (operation_at h i) (needs i))
       next_there i e l =
           next_in
           ∙ ap (entry_in 0 (held h)) (sym e)
-          ∙ entry_there 0 i i (held h) (omega arith) (omega (arith, held_many))
+          ∙ entry_there 0 i i (held h) (omega arith) (omega (arith, held_many h z few))
           ∙ ap (λ (o : Operation). some (entry_of o (needs i))) (get_or-take h.count h.ops i blank_operation l)
 
       pub next_none : (i : ℕ) → i ≡ place_of (held h) t (get_or ps t 0) → h.count ≤ i → next (rows_of needs h) ps t ≡ none
-      next_none i e l = next_in ∙ ap (entry_in 0 (held h)) (sym e) ∙ entry_past 0 i (held h) (omega (arith, held_many))
+      next_none i e l = next_in ∙ ap (entry_in 0 (held h)) (sym e) ∙ entry_past 0 i (held h) (omega (arith, held_many h z few))

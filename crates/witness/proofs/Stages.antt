@@ -1,8 +1,9 @@
 -- The replay on the record is the replay over the rows that it reads as.
-use Rattle.std.proofs.Common.{ℕ, zero, suc, ◌-◌, ◌*◌, ◌<◌, ◌≤◌, ◌≡◌, refl, sym, ap, ◌∙◌, subst, Bool, true, false, not, List, [], ◌∷◌, add-one, arith, length, replicate, length-set, ltb-true, ltb-false}
+use Rattle.std.proofs.Common.{ℕ, zero, suc, ◌+◌, ◌-◌, ◌*◌, ◌<◌, ◌≤◌, ◌≡◌, refl, sym, ap, ◌∙◌, subst, Bool, true, false, not, List, [], ◌∷◌, add-one, arith, length, replicate, length-set, ltb-true, ltb-false, Ok}
 use Rattle.std.proofs.Math.Option.{Option, none, some}
 use Rattle.std.proofs.Math.ListN.{get_or}
-use Rattle.std.specs.Prelude.{ltb}
+use Rattle.std.specs.Prelude.{ltb, set, None}
+use Rattle.std.specs.Option.{option_map}
 use Rattle.theory.specs.Space.{idle}
 use Rattle.history.specs.Rows.{Entry, Rows}
 use Rattle.history.specs.Recorder.{pending}
@@ -18,7 +19,6 @@ use Rattle.families.specs.Placing.{held_of}
 use Rattle.families.specs.Refusals.{op_belongs}
 use Rattle.families.specs.Room.{start_room_lem, room_fewer}
 use Rattle.families.specs.States.{Alike, alike_op}
-use Rattle.values.specs.declared.refusal.Check.TheVariants.{Clear}
 use Rattle.semantics.specs.Invoking.{holds}
 use Rattle.semantics.specs.Roomy.{RoomFor, left_holds, left_full, left_alike, left_roomy}
 use Rattle.families.specs.declared.Ret.{Ret}
@@ -34,9 +34,9 @@ use Rattle.recording_meaning.specs.ShapeExactly.{shape_exactly}
 use Rattle.witness.specs.declared.replay.Stage.{Stage}
 use Rattle.witness.specs.Checking.{told, placed, replays}
 use Rattle.witness.specs.WordsReplayed.{told_return}
-use Rattle.witness.specs.WordsPlayed.{place_of, reaches_of, settle_of, stage, on_stage, stage_at, stage_after, goes_on, play_from, begun, play_of}
+use Rattle.witness.specs.WordsPlayed.{place_of, reaches_of, settled, settle_of, stage, on_stage, stage_at, stage_after, goes_on, play_from, begun, play_of}
 use Rattle.witness.proofs.Objects.{settles}
-use Rattle.witness.proofs.Entries.{next_unknown, next_there, next_none}
+use Rattle.witness.proofs.Entries.{held_many, next_unknown, next_there, next_none}
 use Rattle.witness.proofs.Endings.{done_placed}
 
 -- a thread that has a next operation leaves something to place
@@ -54,10 +54,6 @@ module _ (rows : Rows families) (x : Node families) (t : ℕ) (e : Entry familie
           let a : trying families x t (some e) ≡ idle = ap (trying families x t) (sym n) ∙ spent families rows x z t in
           absurd (tries (met e.needs x.progress) (gives families x.object e.op e.ret) a)
       go (suc k) z = omega arith
-
-same_pick : (a b : Bool) → a ≡ b → (c d : Bool) → (a ≡ true → c ≡ d) → pick a c false ≡ pick b d false
-same_pick true b e c d f = rw (sym e) (f refl)
-same_pick false b e c d f = rw (sym e)
 
 -- a stage as a situation of history's search
 abbrev node_of : Stage → Node families
@@ -81,7 +77,7 @@ module _ (notes : List ℕ) (needs : ℕ → List ℕ) (h : History) (z : Sized 
       abbrev o : Operation
       o = operation_at h i
 
-      op_own : op_belongs s.object.kind o.op ≡ Clear
+      op_own : op_belongs s.object.kind o.op ≡ Ok tt
       op_own = alike_op h.start.kind s.object.kind o.op f.own (((shape_exactly h z).1 e).own_op i l)
 
       -- how many are not placed after it
@@ -100,43 +96,39 @@ module _ (notes : List ℕ) (needs : ℕ → List ℕ) (h : History) (z : Sized 
       given = told (gives families (holds s.object) o.op entry.ret) ws
 
       abbrev after : Stage
-      after = on_stage s.progress t (settle_of s.object o.op o.outcome ws)
+      after = stage (not (pending families entry.ret)) (set s.progress t (get_or s.progress t 0 + 1)) (left_by s.object o.op)
 
-      settled_ok : after.ok ≡ given
-      settled_ok = (settles s.object o.op more f.full op_own has_room o.outcome ws).ok
+      steps : node_of after ≡ stepped families (node_of s) t entry
+      steps = rw (add-one (get_or s.progress t 0), left_holds s.object o.op more f.full op_own has_room)
 
-      settled_ended : after.ended ≡ not (pending families entry.ret)
-      settled_ended = (settles s.object o.op more f.full op_own has_room o.outcome ws).ended
-
-      module _ (y : after.ok ≡ true) (m : met (needs i) s.progress ≡ true) where
-        left_by_lem : after.object ≡ left_by s.object o.op
-        left_by_lem = (settles s.object o.op more f.full op_own has_room o.outcome ws).left y
-
-        steps : node_of after ≡ stepped families (node_of s) t entry
-        steps = rw (add-one (get_or s.progress t 0), left_by_lem, left_holds s.object o.op more f.full op_own has_room)
-
+      module _ (y : given ≡ true) (m : met (needs i) s.progress ≡ true) where
         one_less : size families rows (node_of s) ≡ suc (size families rows (node_of after))
         one_less =
-            let g = told_return (gives families (holds s.object) o.op entry.ret) ws (sym settled_ok ∙ y) in
+            let g = told_return (gives families (holds s.object) o.op entry.ret) ws y in
             let p : Plays families rows (node_of s) t g.0 = record { entry = entry; is_next = here; is_met = m; is_given = g.1 } in
             falls families rows (node_of s) _ t g.0 (plays_move families rows p) ∙ ap (λ x. suc (size families rows x)) (sym steps)
 
         fine : Fine after
         fine = record {
           many = length-set s.progress t _ ∙ f.many;
-          full = ap (λ b. length b.items) left_by_lem ∙ left_full s.object o.op more f.full op_own has_room;
-          own = rw left_by_lem (f.own ∙ left_alike s.object o.op more f.full op_own has_room);
-          roomy = rw left_by_lem (subst (RoomFor (left_by s.object o.op)) (omega (arith, one_less)) (left_roomy s.object o.op more f.full op_own has_room));
+          full = left_full s.object o.op more f.full op_own has_room;
+          own = f.own ∙ left_alike s.object o.op more f.full op_own has_room;
+          roomy = subst (RoomFor (left_by s.object o.op)) (omega (arith, one_less)) (left_roomy s.object o.op more f.full op_own has_room);
         }
 
       -- what `go` says of the stage that is left, `on` says of the situation
       settle_step : (go : Stage → Bool) (on : Bool → Node families → Bool) → ((v : Stage) → Fine v → go v ≡ on v.ended (node_of v))
           → met (needs i) s.progress ≡ true
-          → goes_on after go ≡ pick given (on (not (pending families entry.ret)) (stepped families (node_of s) t entry)) false
-      settle_step go on same m = same_pick after.ok given settled_ok (go after) _ (λ y.
-          same after (fine y m)
-          ∙ ap (λ (b : Bool). on b (node_of after)) settled_ended
-          ∙ ap (on (not (pending families entry.ret))) (steps y m))
+          → goes_on (option_map (on_stage s.progress t) (settle_of s.object o.op o.outcome ws)) go
+          ≡ pick given (on (not (pending families entry.ret)) (stepped families (node_of s) t entry)) false
+      settle_step go on same m =
+          ap (λ x. goes_on (option_map (on_stage s.progress t) x) go) (settles s.object o.op more f.full op_own has_room o.outcome ws) ∙ by_given given refl
+        where
+          by_given : (b : Bool) → given ≡ b
+              → goes_on (option_map (on_stage s.progress t) (settled b (not (pending families entry.ret)) (left_by s.object o.op))) go
+              ≡ pick b (on (not (pending families entry.ret)) (stepped families (node_of s) t entry)) false
+          by_given true y = same after (fine y m) ∙ ap (on (not (pending families entry.ret))) steps
+          by_given false y = refl
 
     module _ (go : Stage → Bool) (on : Bool → Node families → Bool) (same : (v : Stage) → Fine v → go v ≡ on v.ended (node_of v)) where
       place_step : goes_on (stage_after notes h s t ws) go ≡ placed (node_of s) t ws (next rows s.progress t) on
@@ -148,28 +140,27 @@ module _ (notes : List ℕ) (needs : ℕ → List ℕ) (h : History) (z : Sized 
 
           timed : (i : ℕ) → next rows s.progress t ≡ some (entry_of (operation_at h i) (needs i)) → i < h.count
               → (b : Bool) → met (needs i) s.progress ≡ b
-              → goes_on (pick b (on_stage s.progress t (settle_of s.object (operation_at h i).op (operation_at h i).outcome ws))
-              (stage false false s.progress s.object)) go
+              → goes_on (pick b (option_map (on_stage s.progress t) (settle_of s.object (operation_at h i).op (operation_at h i).outcome ws)) None) go
               ≡ placed (node_of s) t ws (some (entry_of (operation_at h i) (needs i))) on
           timed i here l true m = settle_step i here l go on same m ∙ rw m
           timed i here l false m = rw m
 
-          there : t < threads → (i : ℕ) → i ≡ place_of (held h) t (get_or s.progress t 0) → (b : Bool) → ltb i h.count ≡ b
+          there : t < threads → (i : ℕ) → i ≡ place_of (held h) t (get_or s.progress t 0) → (b : Bool) → ltb i (length (held h)) ≡ b
               → goes_on (pick b (pick (reaches_of notes (i * threads) s.progress)
-              (on_stage s.progress t (settle_of s.object (operation_at h i).op (operation_at h i).outcome ws))
-              (stage false false s.progress s.object)) (stage false false s.progress s.object)) go
+              (option_map (on_stage s.progress t) (settle_of s.object (operation_at h i).op (operation_at h i).outcome ws)) None) None) go
               ≡ placed (node_of s) t ws (next rows s.progress t) on
           there low i q true l =
-              let here = next_there needs h z few s.progress f.many t low i q (ltb-true i h.count l) in
-              rw (sym (timely i s.progress f.many), here) (timed i here (ltb-true i h.count l) (met (needs i) s.progress) refl)
-          there low i q false l = rw (next_none needs h z few s.progress f.many t low i q (ltb-false i h.count l))
+              let k : i < h.count = omega (arith, ltb-true i (length (held h)) l, held_many needs h z few) in
+              let here = next_there needs h z few s.progress f.many t low i q k in
+              rw (sym (timely i s.progress f.many), here) (timed i here k (met (needs i) s.progress) refl)
+          there low i q false l = rw (next_none needs h z few s.progress f.many t low i q (omega (arith, ltb-false i (length (held h)) l, held_many needs h z few)))
 
           known : (b : Bool) → ltb t threads ≡ b
-              → goes_on (pick b (stage_at notes h s t ws (place_of (held h) t (get_or s.progress t 0))) (stage false false s.progress s.object)) go
+              → goes_on (pick b (stage_at notes h s t ws (place_of (held h) t (get_or s.progress t 0))) None) go
               ≡ placed (node_of s) t ws (next rows s.progress t) on
           known true l =
               there (ltb-true t threads l) (place_of (held h) t (get_or s.progress t 0)) refl
-              (ltb (place_of (held h) t (get_or s.progress t 0)) h.count) refl
+              (ltb (place_of (held h) t (get_or s.progress t 0)) (length (held h))) refl
           known false l = rw (next_unknown needs h z few s.progress f.many t (ltb-false t threads l))
 
   play : (ws : List ℕ) (s : Stage) → Fine s → play_from notes h s ws ≡ replays rows s.ended (node_of s) ws

@@ -8,7 +8,9 @@ use Rattle.values.specs.Value.{pick}
 use Rattle.families.specs.Families.{families}
 use Rattle.semantics.specs.Invoking.{holds}
 use Rattle.families.specs.declared.Ret.{Ret}
-use Rattle.recording_meaning.specs.Models.{Model, tester_rows}
+use Rattle.stepping.specs.declared.histories.History.{History}
+use Rattle.recording_meaning.specs.Reading.{rows_of}
+use Rattle.recording_meaning.specs.Models.{Model}
 use Rattle.witness.specs.Words.{words_of}
 
 -- The same words.
@@ -42,8 +44,13 @@ replays rows ended x (t ∷ n ∷ c ∷ []) = false
 replays rows ended x (t ∷ n ∷ c ∷ v ∷ ws) = placed x t (n ∷ c ∷ v ∷ []) (next rows x.progress t) (λ b y. replays rows b y ws)
 
 -- The answer for a tester and the words of a proposed order: no if the tester is out of shape or not valid, else the replay's.
-unfoldable pub check_of : (M : Model) → M.Tester → List ℕ → Bool
-check_of M s ws =
-    pick (M.shaped s)
-    (pick (M.history s).valid (replays (tester_rows M s) true (root families (tester_rows M s) (holds (M.history s).start)) ws) false)
+unfoldable pub check_with : {T : Type 0} → (T → Bool) → (T → History) → (T → ℕ → List ℕ) → T → List ℕ → Bool
+check_with shaped history needs s ws =
+    pick (shaped s)
+    (pick (history s).valid
+    (replays (rows_of (needs s) (history s)) true (root families (rows_of (needs s) (history s)) (holds (history s).start)) ws)
+    false)
     false
+
+abbrev pub check_of : (M : Model) → M.Tester → List ℕ → Bool
+check_of M = check_with M.shaped M.history M.needs

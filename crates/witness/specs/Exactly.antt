@@ -10,7 +10,7 @@ use Rattle.semantics.specs.Invoking.{holds}
 use Rattle.recording_meaning.specs.Models.{Model, tester_rows}
 use Rattle.recording_meaning.specs.Parts.{pick_left, pick_right, pick_both}
 use Rattle.witness.specs.Words.{order_words}
-use Rattle.witness.specs.Checking.{replays, check_of}
+use Rattle.witness.specs.Checking.{replays, check_of, check_with}
 use Rattle.witness.specs.WordsReplayed.{words_order, order_words_lem}
 
 module _ (M : Model) (s : M.Tester) (ws : List ℕ) where
@@ -34,7 +34,7 @@ module _ (M : Model) (s : M.Tester) (ws : List ℕ) where
 
   -- Yes exactly if the tester is in shape and valid and the order is legal.
   pub check_exactly : check_of M s ws ≡ true ↔ (M.shaped s ≡ true) × ((M.history s).valid ≡ true) × Legal
-  unfolding check_of
+  unfolding check_with
   check_exactly = (
     λ e. let a = pick_right (M.shaped s) _ e in
         (pick_left (M.shaped s) _ e, pick_left (M.history s).valid _ a, taken_legal (pick_right (M.history s).valid _ a)),

@@ -2,7 +2,6 @@
 // no code with the search.
 #![tactic(auto)]
 
-pub mod linearizability;
+pub mod check;
 mod replay;
-pub mod sequential_consistency;
 pub mod words;

@@ -1,13 +1,9 @@
 -- The note at its place, or nowhere.
-use Rattle.std.proofs.Common.{◌*◌, refl, sym, replicate, arith}
+use Rattle.std.proofs.Common.{◌*◌, sym, replicate, arith}
 use Rattle.std.proofs.Math.Seq.{set_out}
 use Rattle.values.specs.Sizes.{threads, capacity}
 use Rattle.faults.specs.Records.{one_note}
 use Rattle.faults.proofs.one_note.Goals as goal
-
-pub returns-then-place-lt-NOTES : goal.returns-then-place-lt-NOTES
-unfolding one_note
-returns-then-place-lt-NOTES c = refl
 
 pub returns-else-place-lt-NOTES : goal.returns-else-place-lt-NOTES
 unfolding one_note

@@ -1,78 +1,52 @@
 -- What is left of the operations is in shape, with what was counted so far, exactly if the history is.
-use Rattle.std.proofs.Common.{◌≤◌, ◌≡◌, refl, sym, ◌∙◌, arith, length, rules}
-use Rattle.values.specs.Sizes.{capacity}
-use Rattle.stepping.specs.Shape.{kind_of}
-use Rattle.shape.proofs.Looking.{look_start, look_no, look_more, look_end, look_marks, look_yes, look_out, shaped_no, sizes_yes, sizes_no}
+use Rattle.std.proofs.Common.{refl, sym, ◌∙◌, arith, rules}
+use Rattle.std.proofs.Math.ListN.{length-take}
+use Rattle.shape.proofs.Looking.{look_start, look_no, look_more, look_end, look_marks, look_yes, look_out, zeros_left, shaped_no, sizes_yes, sizes_no}
 use Rattle.shape.proofs.look_at.Goals as goal
 
-pub loop-i-init : goal.loop-i-init
-loop-i-init c =
-    let sized = sizes_yes c.args.noted c.args.history.count (kind_of c.args.history) (sym c.sizes_fit.ensures ∙ c.if-sizes_fit.true) in
-    let h = c.args.history in
-    look_start h (kind_of h) refl sized.1.0 sized.1.1 (search rules)
+pub returns-then-not-sizes_fit : goal.returns-then-not-sizes_fit
+returns-then-not-sizes_fit c = look_out _ c.args.history.now (sizes_no c.args.noted c.args.history.now (sym c.sizes_fit.ensures ∙ c.if-not-sizes_fit.true))
 
-pub offset_bounds-history-i : goal.offset_bounds-history-i
-offset_bounds-history-i c =
-    let sized = sizes_yes c.args.noted c.args.history.count (kind_of c.args.history) (sym c.sizes_fit.ensures ∙ c.if-sizes_fit.true) in
-    omega (arith, c.loop-i-test.true, sized.1.0)
+pub shared_ref_as_front-o-items : goal.shared_ref_as_front-o-items
+shared_ref_as_front-o-items c = (sizes_yes _ _ _ (sym c.sizes_fit.ensures ∙ c.if-not-sizes_fit.false)).1.0
 
-pub bounds-history-i : goal.bounds-history-i
-bounds-history-i c =
-    let sized = sizes_yes c.args.noted c.args.history.count (kind_of c.args.history) (sym c.sizes_fit.ensures ∙ c.if-sizes_fit.true) in
-    omega (arith, c.loop-i-test.true, sized.1.0)
+pub offset_bounds-o-items-at : goal.offset_bounds-o-items-at
+offset_bounds-o-items-at c =
+    let few = (sizes_yes _ _ _ (sym c.sizes_fit.ensures ∙ c.if-not-sizes_fit.false)).1.0 in
+    omega (arith, few, length-take c.args.history.now.count c.args.history.now.ops)
 
-pub count_in-requires : goal.count_in-requires
-count_in-requires c =
-    let sized = sizes_yes c.args.noted c.args.history.count (kind_of c.args.history) (sym c.sizes_fit.ensures ∙ c.if-sizes_fit.true) in
-    omega (arith, c.loop-i-test.true, sized.1.0)
+pub loop-at-init : goal.loop-at-init
+loop-at-init c =
+    let sized = sizes_yes _ _ _ (sym c.sizes_fit.ensures ∙ c.if-not-sizes_fit.false) in
+    look_start c.args.history.now c.args.history.now.start.kind refl sized.1.0 sized.1.1 (search rules)
 
-pub loop-i-preserved : goal.loop-i-preserved
-loop-i-preserved c =
-    let sized = sizes_yes c.args.noted c.args.history.count (kind_of c.args.history) (sym c.sizes_fit.ensures ∙ c.if-sizes_fit.true) in
-    let all : length c.args.history.ops ≡ capacity = search rules in
-    let long : c.args.history.count ≤ length c.args.history.ops = omega (arith, all, sized.1.0) in
-    let h = c.args.history in
-    let counted = c.count_in in
-    look_more h long (kind_of h) _ _ _ c.loop-i.invariant
-    c.loop-i-test.true _ counted.ensures.value c.if-count_in.true _ _
-    (counted.ensures.flying_after c.if-count_in.true) (counted.ensures.left_after c.if-count_in.true)
-
-pub returns-else-count_in : goal.returns-else-count_in
-returns-else-count_in c =
-    let sized = sizes_yes c.args.noted c.args.history.count (kind_of c.args.history) (sym c.sizes_fit.ensures ∙ c.if-sizes_fit.true) in
-    let all : length c.args.history.ops ≡ capacity = search rules in
-    let long : c.args.history.count ≤ length c.args.history.ops = omega (arith, all, sized.1.0) in
-    let s = c in
-    let h = s.args.history in
+pub returns-then-not-count_in : goal.returns-then-not-count_in
+returns-then-not-count_in c =
+    let h = c.args.history.now in
     look_out _ h
-    (shaped_no s.args.noted h
-    (look_no h long (kind_of h) _ _ _ c.loop-i.invariant
-    c.loop-i-test.true _ c.count_in.ensures.value c.if-count_in.false))
-    _ c.out_of_shape.ensures
+    (shaped_no c.args.noted h
+    (look_no h h.start.kind _ _ _ c.loop-at.invariant c.loop-at-test.true _ c.count_in.ensures.value c.if-not-count_in.true))
 
-pub returns-then-none_left : goal.returns-then-none_left
-returns-then-none_left c =
-    let sized = sizes_yes c.args.noted c.args.history.count (kind_of c.args.history) (sym c.sizes_fit.ensures ∙ c.if-sizes_fit.true) in
-    let all : length c.args.history.ops ≡ capacity = search rules in
-    let long : c.args.history.count ≤ length c.args.history.ops = omega (arith, all, sized.1.0) in
-    let s = c in
-    let k = c.loop-i.invariant in
-    let end = c.loop-i-test.false in
-    look_yes _ s.args.history
-    (look_end s.args.history long (kind_of s.args.history) _ _ _ k end s.args.noted sized.0 _ c.none_left.ensures ∙ c.if-none_left.true) _
-    (look_marks s.args.history long (kind_of s.args.history) _ _ _ k end)
+pub loop-at-preserved : goal.loop-at-preserved
+loop-at-preserved c =
+    let h = c.args.history.now in
+    let counted = c.if-not-count_in.false in
+    look_more h h.start.kind _ _ _ c.loop-at.invariant c.loop-at-test.true _ c.count_in.ensures.value counted _ _
+    (c.count_in.ensures.flying_after counted) (c.count_in.ensures.left_after counted)
 
-pub returns-then-sizes_fit : goal.returns-then-sizes_fit
-returns-then-sizes_fit c =
-    let sized = sizes_yes c.args.noted c.args.history.count (kind_of c.args.history) (sym c.sizes_fit.ensures ∙ c.if-sizes_fit.true) in
-    let all : length c.args.history.ops ≡ capacity = search rules in
-    let long : c.args.history.count ≤ length c.args.history.ops = omega (arith, all, sized.1.0) in
-    let s = c in
-    look_out _ s.args.history
-    (look_end s.args.history long (kind_of s.args.history) _ _ _ c.loop-i.invariant c.loop-i-test.false
-    s.args.noted sized.0 _ c.none_left.ensures ∙ c.if-none_left.false) _ c.out_of_shape-then-sizes_fit.ensures
+pub returns-then-eq : goal.returns-then-eq
+returns-then-eq c =
+    let h = c.args.history.now in
+    let sized = sizes_yes _ _ _ (sym c.sizes_fit.ensures ∙ c.if-not-sizes_fit.false) in
+    let at_end = c.loop-at.invariant in
+    let none = zeros_left _ _ at_end.left_long c.eq.ensures in
+    look_yes _ h (look_end h h.start.kind _ _ _ at_end c.loop-at-test.false c.args.noted sized.0 _ none ∙ c.if-eq.true) _
+    (look_marks h h.start.kind _ _ _ at_end c.loop-at-test.false)
 
-pub returns : goal.returns
-returns c =
-    let s = c in
-    look_out _ s.args.history (sizes_no s.args.noted s.args.history (sym c.sizes_fit.ensures ∙ c.if-sizes_fit.false)) _ c.out_of_shape-2.ensures
+pub returns-else-eq : goal.returns-else-eq
+returns-else-eq c =
+    let h = c.args.history.now in
+    let sized = sizes_yes _ _ _ (sym c.sizes_fit.ensures ∙ c.if-not-sizes_fit.false) in
+    let at_end = c.loop-at.invariant in
+    let none = zeros_left _ _ at_end.left_long c.eq.ensures in
+    look_out _ h (look_end h h.start.kind _ _ _ at_end c.loop-at-test.false c.args.noted sized.0 _ none ∙ c.if-eq.false)

@@ -1,5 +1,9 @@
--- `testers::recorded` hands back both numbers, both sizes and both testers.
+-- Each number is that of what its call came to.
+use Rattle.std.proofs.Common.{refl, ◌∙◌}
+use Rattle.stepping.specs.Drawn.{number_is}
 use Rattle.testers.proofs.recorded.Goals as goal
 
 pub returns : goal.returns
-returns c = simp (c.joined.ensures, c.number-2.ensures, c.number.ensures)
+returns c =
+    c.joined.ensures
+    ∙ rw (number_is c.args.first.recorded _ c.number-a.ensures, number_is c.args.second.recorded _ c.number-b.ensures) refl

@@ -1,35 +1,25 @@
 -- The event is read whole, and then looked at as the tester's own call would look at it.
-use Rattle.std.proofs.Common.{ℕ, ◌≡◌, ap, ◌∙◌, List, drop}
-use Rattle.numbers.specs.Reader.{got}
-use Rattle.format.specs.Format.{event}
-use Rattle.format.specs.ReadAnswers.{heard, as_event}
-use Rattle.format.specs.Fields.{tail}
+use Rattle.std.proofs.Common.{refl, sym, ap, ◌∙◌, true, rules}
+use Rattle.stepping.specs.EventSteps.{number_of, valid_after}
+use Rattle.stepping.specs.Drawn.{refused_some}
 use Rattle.format.specs.Answered.{event_got, event_refused}
-use Rattle.corpus.proofs.Turning.{turn_unread, turn_refused, turn_taken}
+use Rattle.corpus.proofs.Turning.{read_rest, turn_unread, turn_refused, turn_taken}
 use Rattle.corpus.proofs.turns.turn_at.Goals as goal
 
-pub returns-then-number-ne0 : goal.returns-then-number-ne0
-returns-then-number-ne0 c =
-    -- the event that the rest of the file says
-    let here = event c.args.kind (drop c.args.at c.args.file.now) in
-    let read_here : c.read_event-read.result ≡ as_event here = c.read_event-read.ensures ∙ ap (λ (l : List ℕ). as_event (event c.args.kind l)) (tail c.args.file.now c.args.at) in
-    let got_event : here ≡ got (heard c.in-Event.event) c.in-Event.used = event_got here read_here c.in-Event.is in
-    turn_refused _ _ _ here _ _ got_event _ c.comes_to-recorded.ensures _ c.number-number.ensures c.if-number-ne0.true _
-    c.valid_after-valid.ensures
+pub returns-in-Err : goal.returns-in-Err
+unfolding number_of
+returns-in-Err c =
+    let read = event_got _ (read_rest c.args.kind c.args.file.now c.args.at c.read_event.ensures) c.in_ok-read.was in
+    turn_refused _ _ _ _ _ _ read _ c.comes_to-recorded.ensures _ (c.from.ensures ∙ sym (ap number_of c.in-Err.is)) (λ z. refused_some _ (sym c.from.ensures ∙ z)) _ (c.valid_after.ensures ∙ ap (valid_after true) (sym c.in-Err.is))
 
-pub returns-in-Refused : goal.returns-in-Refused
-returns-in-Refused c =
-    -- the event that the rest of the file says
-    let here = event c.args.kind (drop c.args.at c.args.file.now) in
-    let read_here : c.read_event-read.result ≡ as_event here = c.read_event-read.ensures ∙ ap (λ (l : List ℕ). as_event (event c.args.kind l)) (tail c.args.file.now c.args.at) in
-    turn_unread _ _ _ here _ (event_refused here read_here c.in-Refused.is) _
-    c.number.ensures
+pub returns-in_err-read : goal.returns-in_err-read
+returns-in_err-read c =
+    let none = event_refused _ (read_rest c.args.kind c.args.file.now c.args.at c.read_event.ensures) c.in_err-read.was in
+    let stop = turn_unread c.args.flying.now c.args.kind c.args.count _ _ none in
+    search rules
 
-pub returns-else-number-ne0 : goal.returns-else-number-ne0
-returns-else-number-ne0 c =
-    -- the event that the rest of the file says
-    let here = event c.args.kind (drop c.args.at c.args.file.now) in
-    let read_here : c.read_event-read.result ≡ as_event here = c.read_event-read.ensures ∙ ap (λ (l : List ℕ). as_event (event c.args.kind l)) (tail c.args.file.now c.args.at) in
-    let got_event : here ≡ got (heard c.in-Event.event) c.in-Event.used = event_got here read_here c.in-Event.is in
-    turn_taken _ _ _ here _ _ got_event _ c.comes_to-recorded.ensures _ c.number-number.ensures c.if-number-ne0.false _
-    c.place_for-place.ensures
+pub returns-in-Ok : goal.returns-in-Ok
+unfolding number_of
+returns-in-Ok c =
+    let read = event_got _ (read_rest c.args.kind c.args.file.now c.args.at c.read_event.ensures) c.in_ok-read.was in
+    turn_taken _ _ _ _ _ _ read _ c.comes_to-recorded.ensures _ refl (ap number_of c.in-Ok.is) _ c.place_for.ensures

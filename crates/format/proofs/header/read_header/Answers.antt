@@ -1,24 +1,32 @@
 -- The length is judged before the opening, and both before what follows.
-use Rattle.std.proofs.Common.{sym, ◌∙◌, lt-ltb, le-ltb}
+use Rattle.std.proofs.Common.{◌≡◌, sym, ap, ◌∙◌, Err, lt-ltb, le-ltb, rules}
+use Rattle.numbers.specs.Reader.{as_read}
 use Rattle.format.specs.Format.{header}
-use Rattle.format.specs.Lengths.{opened_long}
+use Rattle.format.specs.SameBytes.{said_opens}
 use Rattle.format.proofs.header.read_header.Goals as goal
 
 pub returns-then-long : goal.returns-then-long
 unfolding header
-returns-then-long c = simp (lt-ltb _ _ c.if-long.true) c.refused_for.ensures
+returns-then-long c = simp (lt-ltb _ _ c.if-long.true)
 
-pub read_start-requires : goal.read_start-requires
-read_start-requires c = opened_long c.args.file.now (sym c.is_opened-opened.ensures ∙ c.if-opened.true)
-
-pub returns-then-opened : goal.returns-then-opened
+pub returns-then-not-opened : goal.returns-then-not-opened
 unfolding header
-returns-then-opened c =
-    simp (le-ltb _ _ c.if-long.false, (sym c.is_opened-opened.ensures ∙ c.if-opened.true))
-    c.read_start.ensures
+returns-then-not-opened c =
+    let opened = said_opens c.args.file.now c.starts_with-opened.result c.starts_with-opened.ensures.value in
+    simp (le-ltb _ _ c.if-long.false, sym opened ∙ c.if-not-opened.true)
+
+pub returns-in_err-value : goal.returns-in_err-value
+unfolding header
+returns-in_err-value c =
+    let opened = said_opens c.args.file.now c.starts_with-opened.result c.starts_with-opened.ensures.value in
+    let said = rw (c.new-cursor.ensures.bytes, c.new-cursor.ensures.at, c.in_err-value.was) at c.start.ensures.said in
+    let none : as_read (header c.args.file.now) ≡ Err c.in_err-value.field-0.0 =
+    simp (le-ltb _ _ c.if-long.false, sym opened ∙ c.if-not-opened.false) (ap as_read said) in
+    search rules
 
 pub returns : goal.returns
 unfolding header
 returns c =
-    simp (le-ltb _ _ c.if-long.false, sym c.is_opened-opened.ensures ∙ c.if-opened.false)
-    c.refused_for-2.ensures
+    let opened = said_opens c.args.file.now c.starts_with-opened.result c.starts_with-opened.ensures.value in
+    let said = rw (c.new-cursor.ensures.bytes, c.new-cursor.ensures.at, c.in_ok-value.was) at c.start.ensures.said in
+    simp (le-ltb _ _ c.if-long.false, sym opened ∙ c.if-not-opened.false) (ap as_read (sym said))

@@ -11,4 +11,4 @@ overflow_cast-result c =
 
 pub returns : goal.returns
 unfolding judged_report
-returns c = simp (← c.threads_of.ensures, ← c.number.ensures)
+returns c = simp (← c.threads_of.ensures, ← c.from.ensures)

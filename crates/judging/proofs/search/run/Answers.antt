@@ -1,150 +1,80 @@
 -- Each turn goes where the machine of the walk goes: placed, turned away, or back over a level.
-use Rattle.std.proofs.Common.{rules, ◌≡◌, refl, sym, ◌∙◌, length, arith}
-use Rattle.values.specs.Sizes.{room}
+use Rattle.std.proofs.Common.{refl, sym, arith}
 use Rattle.recording_meaning.specs.Reading.{Sized}
-use Rattle.judging.proofs.SearchRunning.{
-  running_start,
-  fits,
-  next_small,
-  depth_small,
-  within,
-  found,
-  exhausted,
-  progress_small,
-  slot_at,
-  here_small,
-  used,
-  turn_early,
-  turn_wrong,
-}
-use Rattle.judging.proofs.SearchTurns.{deeper, left_enough, turn_placed, back_low, back_some, turn_undone}
+use Rattle.judging.proofs.SearchRunning.{running_start, next_small, depth_small, found, exhausted, has, progress_small, deeper, used, turn_early, turn_wrong}
+use Rattle.judging.proofs.SearchTurns.{left_enough, turn_placed, back_low, back_some, turn_undone}
 use Rattle.judging.proofs.search.run.Goals as goal
+use Rattle.judging.proofs.search.run.Goals.{else-allowed-via-then-allowed+else-fits, else-allowed-via-else-allowed}
 
 pub loop-left-init : goal.loop-left-init
 loop-left-init c =
-    let h = c.args.history in
-    let sized : Sized h = record { places = search rules; counters = search rules } in
-    let full : length h.start.items ≡ room = search rules in
-    running_start _ h _ _ _ _ _ _ _ c.held_of-held.ensures c.requires.returned_value.0 sized full c.requires.history_value c.requires.indexed
-    c.requires.returned_value.1 refl
+    let i = c.args.index.now in
+    let h = i.history.now in
+    let sized : Sized h = record { places = i.sized.0; counters = i.sized.1 } in
+    running_start _ h _ _ _ _ _ _ c.held_of-held.ensures c.completed-left.ensures sized i.sized.2 i.in_shape i.counts c.told-path refl
 
 pub returns-then-left-eq0 : goal.returns-then-left-eq0
 returns-then-left-eq0 c = found c.loop-left.invariant c.if-left-eq0.true
 
-pub ready-k-requires : goal.ready-k-requires
-ready-k-requires c = next_small c.loop-left.invariant
+pub ready-requires : goal.ready-requires
+ready-requires c = next_small c.loop-left.invariant
 
 pub returns-then-attempts-budget : goal.returns-then-attempts-budget
 returns-then-attempts-budget c =
-    used c.loop-left.invariant c.if-left-eq0.false _ c.ready-k.ensures c.if-k-lt-THREADS.true c.if-attempts-budget.true
+    used c.loop-left.invariant c.if-left-eq0.false _ c.in-Some.ensures.1 c.in-Some.ensures.0 c.if-attempts-budget.true
 
-pub overflow_add-attempts : goal.overflow_add-attempts
-overflow_add-attempts c = omega (arith, within c.loop-left.invariant)
-
-pub overflow_cast-at : goal.overflow_cast-at
-overflow_cast-at c =
-    omega (arith, progress_small c.loop-left.invariant c.if-left-eq0.false _ c.ready-k.ensures c.if-k-lt-THREADS.true)
-
-pub overflow_add-at : goal.overflow_add-at
-overflow_add-at c =
-    omega (arith, slot_at c.loop-left.invariant c.if-left-eq0.false _ c.ready-k.ensures c.if-k-lt-THREADS.true)
-
-pub bounds-slot-k : goal.bounds-slot-k
-bounds-slot-k c =
-    slot_at c.loop-left.invariant c.if-left-eq0.false _ c.ready-k.ensures c.if-k-lt-THREADS.true
-
-pub offset_bounds-history-at : goal.offset_bounds-history-at
-offset_bounds-history-at c =
-    omega (arith, here_small c.loop-left.invariant c.if-left-eq0.false _ c.ready-k.ensures c.if-k-lt-THREADS.true)
-
-pub bounds-history-at : goal.bounds-history-at
-bounds-history-at c =
-    here_small c.loop-left.invariant c.if-left-eq0.false _ c.ready-k.ensures c.if-k-lt-THREADS.true
-
-pub allowed-requires : goal.allowed-requires
-allowed-requires c = (
-  here_small c.loop-left.invariant c.if-left-eq0.false _ c.ready-k.ensures c.if-k-lt-THREADS.true,
-  (fits c.loop-left.invariant).progress_long,
-)
+pub place-at-requires : goal.place-at-requires
+place-at-requires c = (c.in-Some.ensures.0, has c.loop-left.invariant c.if-left-eq0.false _ c.in-Some.ensures.1 c.in-Some.ensures.0)
 
 pub offset_bounds-levels-depth : goal.offset_bounds-levels-depth
 offset_bounds-levels-depth c =
-    omega (arith, deeper c.loop-left.invariant c.if-left-eq0.false _ c.ready-k.ensures c.if-k-lt-THREADS.true)
+    omega (arith, deeper c.loop-left.invariant c.if-left-eq0.false _ c.in-Some.ensures.1 c.in-Some.ensures.0)
 
 pub bounds-levels-depth : goal.bounds-levels-depth
-bounds-levels-depth c =
-    deeper c.loop-left.invariant c.if-left-eq0.false _ c.ready-k.ensures c.if-k-lt-THREADS.true
+bounds-levels-depth c = deeper c.loop-left.invariant c.if-left-eq0.false _ c.in-Some.ensures.1 c.in-Some.ensures.0
 
 pub bounds-path-depth : goal.bounds-path-depth
-bounds-path-depth c =
-    deeper c.loop-left.invariant c.if-left-eq0.false _ c.ready-k.ensures c.if-k-lt-THREADS.true
+bounds-path-depth c = deeper c.loop-left.invariant c.if-left-eq0.false _ c.in-Some.ensures.1 c.in-Some.ensures.0
 
 pub overflow_add-depth : goal.overflow_add-depth
 overflow_add-depth c =
-    omega (arith, deeper c.loop-left.invariant c.if-left-eq0.false _ c.ready-k.ensures c.if-k-lt-THREADS.true)
+    omega (arith, deeper c.loop-left.invariant c.if-left-eq0.false _ c.in-Some.ensures.1 c.in-Some.ensures.0)
 
 pub overflow_add-progress : goal.overflow_add-progress
 overflow_add-progress c =
-    omega (arith, progress_small c.loop-left.invariant c.if-left-eq0.false _ c.ready-k.ensures c.if-k-lt-THREADS.true)
+    omega (arith, progress_small c.loop-left.invariant c.if-left-eq0.false _ c.in-Some.ensures.1 c.in-Some.ensures.0)
 
 pub overflow_sub-left : goal.overflow_sub-left
 overflow_sub-left c =
-    omega (arith, left_enough c.loop-left.invariant c.if-left-eq0.false _ c.ready-k.ensures c.if-k-lt-THREADS.true, c.counted-left.ensures.0)
-
-pub loop-left-smaller-then-fits : goal.loop-left-smaller-then-fits
-loop-left-smaller-then-fits c = omega (arith, within c.loop-left.invariant)
+    let enough = left_enough c.loop-left.invariant c.if-left-eq0.false _ c.in-Some.ensures.1 c.in-Some.ensures.0 _ c.place-at.ensures.place in
+    omega (arith, enough, c.counted-left.ensures.0)
 
 pub loop-left-preserved-then-fits : goal.loop-left-preserved-then-fits
 loop-left-preserved-then-fits c =
-    turn_placed
-    c.loop-left.invariant
-    c.if-left-eq0.false
-    _
-    c.ready-k.ensures
-    c.if-k-lt-THREADS.true
-    c.if-attempts-budget.false
-    (sym c.allowed.ensures ∙ c.if-allowed.true)
-    (sym c.fits.ensures ∙ c.if-fits.true)
-    _ _ _
-    c.act-acted.ensures.value
-    c.act-acted.ensures.after
-    c.counted-left.ensures.0
-
-pub loop-left-smaller-else-fits : goal.loop-left-smaller-else-fits
-loop-left-smaller-else-fits c = omega (arith, within c.loop-left.invariant)
-
-pub loop-left-preserved-else-fits : goal.loop-left-preserved-else-fits
-loop-left-preserved-else-fits c =
-    turn_wrong
-    c.loop-left.invariant
-    c.if-left-eq0.false
-    _
-    c.ready-k.ensures
-    c.if-k-lt-THREADS.true
-    c.if-attempts-budget.false
-    (sym c.allowed.ensures ∙ c.if-allowed.true)
-    (sym c.fits.ensures ∙ c.if-fits.false)
-
-pub loop-left-smaller-else-allowed : goal.loop-left-smaller-else-allowed
-loop-left-smaller-else-allowed c = omega (arith, within c.loop-left.invariant)
+    turn_placed c.loop-left.invariant c.if-left-eq0.false _ c.in-Some.ensures.1 c.in-Some.ensures.0 _ c.place-at.ensures.place
+    c.if-attempts-budget.false (sym c.if-allowed.ensures) (sym c.if-fits.ensures)
+    _ _ _ c.act-acted.ensures.value c.act-acted.ensures.after c.counted-left.ensures.0
 
 pub loop-left-preserved-else-allowed : goal.loop-left-preserved-else-allowed
 loop-left-preserved-else-allowed c =
-    turn_early c.loop-left.invariant c.if-left-eq0.false _ c.ready-k.ensures c.if-k-lt-THREADS.true
-    c.if-attempts-budget.false (sym c.allowed.ensures ∙ c.if-allowed.false)
+    elim c.else-allowed.branch [
+      | else-allowed-via-then-allowed+else-fits w ↦ turn_wrong c.loop-left.invariant c.if-left-eq0.false _ c.in-Some.ensures.1 c.in-Some.ensures.0
+          _ c.place-at.ensures.place c.if-attempts-budget.false (sym w.if-allowed.ensures) (sym w.if-fits.ensures)
+      | else-allowed-via-else-allowed w ↦ turn_early c.loop-left.invariant c.if-left-eq0.false _ c.in-Some.ensures.1 c.in-Some.ensures.0
+          _ c.place-at.ensures.place c.if-attempts-budget.false (sym w.if-allowed.ensures)
+    ]
 
 pub returns-then-depth-eq0 : goal.returns-then-depth-eq0
-returns-then-depth-eq0 c =
-    exhausted c.loop-left.invariant c.if-left-eq0.false _ c.ready-k.ensures c.if-k-lt-THREADS.false c.if-depth-eq0.true
+returns-then-depth-eq0 c = exhausted c.loop-left.invariant c.if-left-eq0.false _ c.in_default.ensures (omega arith) c.if-depth-eq0.true
 
-pub offset_bounds-levels-depth-else-k-lt-THREADS : goal.offset_bounds-levels-depth-else-k-lt-THREADS
-offset_bounds-levels-depth-else-k-lt-THREADS c = omega (arith, depth_small c.loop-left.invariant)
+pub offset_bounds-levels-depth-in_default : goal.offset_bounds-levels-depth-in_default
+offset_bounds-levels-depth-in_default c = omega (arith, depth_small c.loop-left.invariant)
 
-pub bounds-levels-depth-else-k-lt-THREADS : goal.bounds-levels-depth-else-k-lt-THREADS
-bounds-levels-depth-else-k-lt-THREADS c = omega (arith, depth_small c.loop-left.invariant)
+pub bounds-levels-depth-in_default : goal.bounds-levels-depth-in_default
+bounds-levels-depth-in_default c = omega (arith, depth_small c.loop-left.invariant)
 
-pub bounds-path-depth-else-k-lt-THREADS : goal.bounds-path-depth-else-k-lt-THREADS
-bounds-path-depth-else-k-lt-THREADS c = omega (arith, depth_small c.loop-left.invariant)
+pub bounds-path-depth-in_default : goal.bounds-path-depth-in_default
+bounds-path-depth-in_default c = omega (arith, depth_small c.loop-left.invariant)
 
 pub bounds-progress-th : goal.bounds-progress-th
 bounds-progress-th c = back_low c.loop-left.invariant c.if-depth-eq0.false
@@ -152,16 +82,9 @@ bounds-progress-th c = back_low c.loop-left.invariant c.if-depth-eq0.false
 pub overflow_sub-progress : goal.overflow_sub-progress
 overflow_sub-progress c = omega (arith, back_some c.loop-left.invariant c.if-depth-eq0.false)
 
-pub bounds-progress-th-else-k-lt-THREADS : goal.bounds-progress-th-else-k-lt-THREADS
-bounds-progress-th-else-k-lt-THREADS c = back_low c.loop-left.invariant c.if-depth-eq0.false
-
-pub overflow_add-next-else-k-lt-THREADS : goal.overflow_add-next-else-k-lt-THREADS
-overflow_add-next-else-k-lt-THREADS c = omega (arith, back_low c.loop-left.invariant c.if-depth-eq0.false)
-
-pub loop-left-smaller : goal.loop-left-smaller
-loop-left-smaller c = omega arith
+pub bounds-progress-th-in_default : goal.bounds-progress-th-in_default
+bounds-progress-th-in_default c = back_low c.loop-left.invariant c.if-depth-eq0.false
 
 pub loop-left-preserved : goal.loop-left-preserved
 loop-left-preserved c =
-    turn_undone c.loop-left.invariant c.if-depth-eq0.false c.if-left-eq0.false _
-    c.ready-k.ensures c.if-k-lt-THREADS.false _ c.take_back.ensures
+    turn_undone c.loop-left.invariant c.if-depth-eq0.false c.if-left-eq0.false _ c.in_default.ensures (omega arith) _ c.take_back.ensures

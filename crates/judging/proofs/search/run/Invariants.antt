@@ -7,7 +7,7 @@ use Rattle.judging.proofs.search.run.Given as goal
 
 abbrev pub invariant-loop-left : goal.invariant-loop-left
 invariant-loop-left l =
-    Running (notes_of l.notes) l.history l.budget l.slot l.started l.path l.levels l.depth (situation l.items l.held l.progress) l.left l.next l.attempts
+    Running (notes_of l.notes) l.index.history.now l.budget l.index.started l.path l.levels l.depth (situation l.items l.held l.progress) l.left l.next l.attempts
 
 abbrev pub decreases-loop-left : goal.decreases-loop-left
 decreases-loop-left l =

@@ -1,57 +1,34 @@
 -- The loop stops as the walk does, and an order is shown with its returns.
-use Rattle.std.proofs.Common.{◌≡◌, refl, ap, ◌∙◌, length, rules}
+use Rattle.std.proofs.Common.{◌≡◌, sym, ◌∙◌, length, length-take-le, arith, rules}
 use Rattle.values.specs.Sizes.{capacity}
 use Rattle.recording_meaning.specs.Reading.{notes_of}
-use Rattle.judging.specs.Answers.{is_consistent, judged_of}
+use Rattle.judging.specs.Answers.{judged_of}
 use Rattle.judging.proofs.Answering.{stopped_order, stopped_with, stopped_without}
 use Rattle.judging.proofs.search.search.Goals as goal
 
-pub run-stopped-requires : goal.run-stopped-requires
-run-stopped-requires c =
-    record { history_value = c.requires; indexed = c.index_of-index.ensures; returned_value = (c.completed-returned.ensures, refl) }
+pub slice_bounds-path-end : goal.slice_bounds-path-end
+slice_bounds-path-end c =
+    omega (arith, (stopped_order _ _ _ _ c.run-verdict.ensures (sym c.if-is_consistent.ensures)).within)
 
-pub order_of-order-requires : goal.order_of-order-requires
-order_of-order-requires c =
-    let run = c.run-stopped in
-    let a = c.args in
-    let found = stopped_order (judged_of (notes_of a.notes.now) a.history a.budget) a.history run.new.path run.result
-    run.ensures c.in-Order.is in
-    record { history_value = c.requires; slotted = c.index_of-index.ensures.at; depth_le_capacity = (found.within, found.playable) }
+pub slice_bounds-order_of-end : goal.slice_bounds-order_of-end
+slice_bounds-order_of-end c =
+    let w = stopped_order _ _ _ _ c.run-verdict.ensures (sym c.if-is_consistent.ensures) in
+    sym (length-take-le c.run-verdict.result.depth c.run-verdict.new.path (omega (arith, w.within, c.run-verdict.array_long)))
 
-pub returns-in-Order : goal.returns-in-Order
-returns-in-Order c =
-    let a = c.args in
-    let run = c.run-stopped in
-    let j = judged_of (notes_of a.notes.now) a.history a.budget in
-    let path = run.new.path in
-    let is_order = c.in-Order.is in
-    let found = stopped_order j a.history path run.result run.ensures is_order in
-    let long : length c.order_of-order.result ≡ capacity = search rules in
-    rw is_order (stopped_with j a.history path run.result.depth run.result.attempts found c.order_of-order.result long c.order_of-order.ensures)
+pub order_of-requires-clause-playable : goal.order_of-requires-clause-playable
+order_of-requires-clause-playable c = (stopped_order _ _ _ _ c.run-verdict.ensures (sym c.if-is_consistent.ensures)).playable
 
-pub returns-in-NoOrder : goal.returns-in-NoOrder
-unfolding is_consistent
-returns-in-NoOrder c =
+pub returns-then-is_consistent : goal.returns-then-is_consistent
+returns-then-is_consistent c =
     let a = c.args in
-    let run = c.run-stopped in
+    let h = c.of-index.ensures in
+    let long : length c.order_of.result ≡ capacity = search rules in
+    stopped_with (judged_of (notes_of a.notes.now) a.history a.budget) a.history c.run-verdict.new.path c.run-verdict.result
+    (rw h at c.run-verdict.ensures) (sym c.if-is_consistent.ensures) c.run-verdict.array_long c.order_of.result long (rw h at c.order_of.ensures)
+
+pub returns-else-is_consistent : goal.returns-else-is_consistent
+returns-else-is_consistent c =
+    let a = c.args in
     c.without_order.ensures
-    ∙ stopped_without (judged_of (notes_of a.notes.now) a.history a.budget) a.history run.new.path run.result run.ensures
-    (ap is_consistent c.in-NoOrder.is)
-
-pub returns-in-Undecided : goal.returns-in-Undecided
-unfolding is_consistent
-returns-in-Undecided c =
-    let a = c.args in
-    let run = c.run-stopped in
-    c.without_order-in-Undecided.ensures
-    ∙ stopped_without (judged_of (notes_of a.notes.now) a.history a.budget) a.history run.new.path run.result run.ensures
-    (ap is_consistent c.in-Undecided.is)
-
-pub returns-in-Invalid : goal.returns-in-Invalid
-unfolding is_consistent
-returns-in-Invalid c =
-    let a = c.args in
-    let run = c.run-stopped in
-    c.without_order-in-Invalid.ensures
-    ∙ stopped_without (judged_of (notes_of a.notes.now) a.history a.budget) a.history run.new.path run.result run.ensures
-    (ap is_consistent c.in-Invalid.is)
+    ∙ stopped_without (judged_of (notes_of a.notes.now) a.history a.budget) a.history c.run-verdict.new.path c.run-verdict.result
+    (rw c.of-index.ensures at c.run-verdict.ensures) (sym c.if-is_consistent.ensures)

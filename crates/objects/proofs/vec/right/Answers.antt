@@ -1,41 +1,18 @@
--- Operation and return must be of a pair, and carry what the storage answers.
-use Rattle.values.specs.Coded.{same_coded, maybe_coded}
-use Rattle.values.specs.SameValues.{maybe_same}
-use Rattle.objects.specs.Stack.{storage_answer, stack_ret_coded}
+-- The derived equality says whether two returns have the same numbers.
+use Rattle.std.proofs.Common.{◌∙◌}
+use Rattle.objects.specs.Stack.{storage_answer}
+use Rattle.objects.specs.StackTells.{stack_ret_same}
+use Rattle.objects.specs.declared.vec.VecRet.TheVariants.{PushOk, PopOk, LenOk}
 use Rattle.objects.proofs.vec.right.Goals as goal
 
-pub returns-in-PushOk : goal.returns-in-PushOk
-unfolding storage_answer stack_ret_coded same_coded maybe_coded
-returns-in-PushOk c = simp (c.in-PushOk.is, c.in-Push.is)
+pub returns-in-Push : goal.returns-in-Push
+unfolding storage_answer
+returns-in-Push c = c.eq.ensures ∙ stack_ret_same PushOk c.args.ret ∙ simp (c.in-Push.is)
 
-pub returns-in-PopOk : goal.returns-in-PopOk
-unfolding storage_answer stack_ret_coded same_coded maybe_coded
-returns-in-PopOk c = simp (c.in-PopOk.is, c.in-Push.is)
+pub returns-in-Pop : goal.returns-in-Pop
+unfolding storage_answer
+returns-in-Pop c = c.eq-in-Pop.ensures ∙ stack_ret_same (PopOk c.top_of.result) c.args.ret ∙ simp (c.in-Pop.is, c.top_of.ensures)
 
-pub returns-in-LenOk : goal.returns-in-LenOk
-unfolding storage_answer stack_ret_coded same_coded maybe_coded
-returns-in-LenOk c = simp (c.in-LenOk.is, c.in-Push.is)
-
-pub returns-in-PushOk-ret : goal.returns-in-PushOk-ret
-unfolding storage_answer stack_ret_coded same_coded maybe_coded
-returns-in-PushOk-ret c = simp (c.in-PushOk-ret.is, c.in-Pop.is)
-
-pub returns-in-PopOk-ret : goal.returns-in-PopOk-ret
-unfolding storage_answer stack_ret_coded
-returns-in-PopOk-ret c = simp (maybe_same, c.same_maybe.ensures, c.top_of-top.ensures, c.in-PopOk-ret.is, c.in-Pop.is)
-
-pub returns-in-LenOk-ret : goal.returns-in-LenOk-ret
-unfolding storage_answer stack_ret_coded same_coded maybe_coded
-returns-in-LenOk-ret c = simp (c.in-LenOk-ret.is, c.in-Pop.is)
-
-pub returns-in-PushOk-ret-2 : goal.returns-in-PushOk-ret-2
-unfolding storage_answer stack_ret_coded same_coded maybe_coded
-returns-in-PushOk-ret-2 c = simp (c.in-PushOk-ret-2.is, c.in-Len.is)
-
-pub returns-in-PopOk-ret-2 : goal.returns-in-PopOk-ret-2
-unfolding storage_answer stack_ret_coded same_coded maybe_coded
-returns-in-PopOk-ret-2 c = simp (c.in-PopOk-ret-2.is, c.in-Len.is)
-
-pub returns-in-LenOk-ret-2 : goal.returns-in-LenOk-ret-2
-unfolding storage_answer stack_ret_coded same_coded maybe_coded
-returns-in-LenOk-ret-2 c = simp (c.in-LenOk-ret-2.is, c.in-Len.is)
+pub returns-in-Len : goal.returns-in-Len
+unfolding storage_answer
+returns-in-Len c = c.eq-in-Len.ensures ∙ stack_ret_same (LenOk c.args.depth) c.args.ret ∙ simp (c.in-Len.is)

@@ -1,12 +1,9 @@
--- A Write succeeds on nothing and on an equal value.
+-- The bits are equal exactly where the values are.
+use Rattle.std.proofs.Common.{rules}
+use Rattle.values.specs.Bits.{eq_z_bits}
 use Rattle.objects.specs.WriteOnce.{writes}
-use Rattle.values.specs.Bits.{back}
 use Rattle.objects.proofs.write_once_register.writes_ok.Goals as goal
 
-pub returns-in-Nothing : goal.returns-in-Nothing
+pub returns-in-Some : goal.returns-in-Some
 unfolding writes
-returns-in-Nothing c = simp c.in-Nothing.is
-
-pub returns-in-Value : goal.returns-in-Value
-unfolding writes
-returns-in-Value c = simp (c.same_value.ensures, c.in-Value.is, back, c.in-Value.known_told-1-own.given.0.1, c.ranges.v.sfits)
+returns-in-Some c = rw c.in-Some.is (eq_z_bits c.in-Some.x c.args.v (search rules) c.ranges.v)

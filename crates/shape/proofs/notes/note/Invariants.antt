@@ -1,11 +1,7 @@
 -- The notes are written thread by thread.
-use Rattle.std.proofs.Common.{◌≤◌, ◌-◌, ◌≡◌}
-use Rattle.values.specs.Sizes.{threads}
+use Rattle.std.proofs.Common.{◌≡◌}
 use Rattle.shape.specs.Notes.{notes_with}
 use Rattle.shape.proofs.notes.note.Given as goal
 
 abbrev pub invariant-loop-u : goal.invariant-loop-u
-invariant-loop-u l = (l.u ≤ threads) × (l.notes ≡ notes_with l.done l.own l.at l.initial.notes l.u)
-
-abbrev pub decreases-loop-u : goal.decreases-loop-u
-decreases-loop-u l = threads - l.u
+invariant-loop-u l = l.notes ≡ notes_with l.done l.own l.at l.initial.notes l.u

@@ -11,9 +11,9 @@ returns-then-n-eq0 c =
     let n = c.args.n in
     rw (eq-eqb (n % 2) 0 (sym (and_mask n 1) ∙ c.if-n-eq0.true)) (half_pos n c.ranges.n.fits)
 
-pub returns : goal.returns
+pub returns-else-n-eq0 : goal.returns-else-n-eq0
 unfolding signed
-returns c =
+returns-else-n-eq0 c =
     let n = c.args.n in
     let f = c.ranges.n.fits in
     rw (ne_eqb (n % 2) 0 (λ e. c.if-n-eq0.false (and_mask n 1 ∙ e))) (to_z-of_z (half_fits n f) ∙ half_less n f)

@@ -1,39 +1,46 @@
 -- A place that is no operation's, or comes too early, is wrong; else the operation settles it.
-use mathlib.Core.Path.{◌≡◌, sym, ◌∙◌}
-use native.Mathlib.Omega.{arith}
-use lib.ListN.{length}
-use borrow.Author.Rules.{rules}
-use borrow.Author.Tests.{lt-ltb, le-ltb}
-use Rattle.values.specs.Sizes.{capacity}
+use Rattle.std.proofs.Common.{sym, ◌∙◌, arith, length-take, lt-ltb, le-ltb}
 use Rattle.witness.specs.WordsPlayed.{stage_after}
 use Rattle.witness.proofs.Finding.{number_below}
 use Rattle.witness.proofs.replay.place.Goals as goal
 
-pub overflow_add-progress : goal.overflow_add-progress
-overflow_add-progress c =
-    let start = c in
-    let at_find = c.find-at in
-    let h = start.args.history in
-    let long : length h.ops ≡ capacity = search rules in
-    omega (
-      arith,
-      start.requires,
-      number_below h (omega (arith, long, start.requires)) _ _ _ at_find.ensures
-          c.if-at-history.true,
+pub returns-then-own-ge-THREADS : goal.returns-then-own-ge-THREADS
+unfolding stage_after
+returns-then-own-ge-THREADS c = simp (le-ltb _ _ c.if-own-ge-THREADS.true)
+
+pub returns-in_err-at : goal.returns-in_err-at
+unfolding stage_after
+returns-in_err-at c = c.from_residual.ensures ∙ simp (lt-ltb _ _ c.if-own-ge-THREADS.false, le-ltb _ _ c.in_err-at.ensures)
+
+pub returns-then-not-reaches : goal.returns-then-not-reaches
+unfolding stage_after
+returns-then-not-reaches c =
+    simp (lt-ltb _ _ c.if-own-ge-THREADS.false, ← c.in_ok-at.ensures.1, lt-ltb _ _ c.in_ok-at.ensures.0, sym c.if-not-reaches.ensures)
+
+pub returns-in_err-settled : goal.returns-in_err-settled
+unfolding stage_after
+returns-in_err-settled c =
+    c.from_residual-in_err-settled.ensures
+    ∙ simp (
+      lt-ltb _ _ c.if-own-ge-THREADS.false,
+      ← c.in_ok-at.ensures.1,
+      lt-ltb _ _ c.in_ok-at.ensures.0,
+      sym c.if-not-reaches.ensures,
+      sym c.settle.ensures ∙ c.in_err-settled.was,
     )
 
-pub returns-then-reaches : goal.returns-then-reaches
-unfolding stage_after
-returns-then-reaches c = simp (lt-ltb _ _ c.if-at-history.true, lt-ltb _ _ c.if-own-lt-THREADS.true, sym c.reaches.ensures ∙ c.if-reaches.true, ← c.settle-settled.ensures, ← c.find-at.ensures)
+pub overflow_add-progress : goal.overflow_add-progress
+overflow_add-progress c =
+    let h = c.args.history.now in
+    omega (arith, number_below _ _ _ _ c.in_ok-at.ensures.1 c.in_ok-at.ensures.0, length-take h.count h.ops, c.requires)
 
-pub returns-else-reaches : goal.returns-else-reaches
+pub returns : goal.returns
 unfolding stage_after
-returns-else-reaches c = simp (lt-ltb _ _ c.if-at-history.true, lt-ltb _ _ c.if-own-lt-THREADS.true, sym c.reaches.ensures ∙ c.if-reaches.false, ← c.find-at.ensures)
-
-pub returns-else-at-history : goal.returns-else-at-history
-unfolding stage_after
-returns-else-at-history c = simp (le-ltb _ _ c.if-at-history.false, lt-ltb _ _ c.if-own-lt-THREADS.true, ← c.find-at.ensures)
-
-pub returns-else-own-lt-THREADS : goal.returns-else-own-lt-THREADS
-unfolding stage_after
-returns-else-own-lt-THREADS c = simp (le-ltb _ _ c.if-own-lt-THREADS.false)
+returns c =
+    simp (
+      lt-ltb _ _ c.if-own-ge-THREADS.false,
+      ← c.in_ok-at.ensures.1,
+      lt-ltb _ _ c.in_ok-at.ensures.0,
+      sym c.if-not-reaches.ensures,
+      sym c.settle.ensures ∙ c.in_ok-settled.was,
+    )

@@ -1,42 +1,44 @@
 -- What is left of the words goes through from the stage in hand exactly if all of them do from the start.
-use Rattle.witness.proofs.Going.{going_start, going_short, going_on, going_wrong, going_ended, going_pending}
+use Rattle.std.proofs.Common.{refl, sym, ◌∙◌, eqb-true, arith}
+use Rattle.std.proofs.lemmas.Bool.{eqb-false}
+use Rattle.history.specs.Lists.{not_both}
+use Rattle.witness.specs.WordsPlayed.{play_of}
+use Rattle.witness.proofs.Going.{short_words, shorter, going_on, going_wrong, going_ended, going_pending}
 use Rattle.witness.proofs.replay.replay.Goals as goal
+use Rattle.witness.proofs.replay.replay.Goals.{then-is_empty, else-is_empty}
 
-pub loop-i-init : goal.loop-i-init
-loop-i-init c =
-    let a = c.args in
-    going_start a.notes.now a.history a.order.now
+pub loop-rest-init : goal.loop-rest-init
+unfolding play_of
+loop-rest-init c = refl
 
-pub returns-then-n-i-lt-WORDS : goal.returns-then-n-i-lt-WORDS
-returns-then-n-i-lt-WORDS c =
-    let a = c.args in
-    let at-loop = c.loop-i in
-    going_short a.notes.now a.history a.order.now at-loop.stage at-loop.i at-loop.invariant c.loop-i-test.true c.if-n-i-lt-WORDS.true
+pub returns-in_default-place : goal.returns-in_default-place
+returns-in_default-place c =
+    going_wrong c.args.notes.now c.args.history.now c.loop-rest.stage c.loop-rest.rest.now c.in-len4-up.len_at_least
+    (sym c.place.ensures ∙ c.in_default-place.is) ∙ c.loop-rest.invariant
 
-pub loop-i-preserved : goal.loop-i-preserved
-loop-i-preserved c =
-    let a = c.args in
-    let at-loop = c.loop-i in
-    going_on a.notes.now a.history a.order.now at-loop.stage at-loop.i at-loop.invariant
-    c.if-n-i-lt-WORDS.false c.place-stage.result c.place-stage.ensures c.if-stage.true
+pub loop-rest-smaller : goal.loop-rest-smaller
+loop-rest-smaller c =
+    shorter c.args.notes.now c.args.history.now c.loop-rest.stage c.loop-rest.rest.now c.in-len4-up.len_at_least
+
+pub loop-rest-preserved : goal.loop-rest-preserved
+loop-rest-preserved c =
+    going_on c.args.notes.now c.args.history.now c.loop-rest.stage c.loop-rest.rest.now c.in-len4-up.len_at_least
+    c.in-Some.next (sym c.place.ensures ∙ c.in-Some.is) ∙ c.loop-rest.invariant
+
+pub returns-then-stage : goal.returns-then-stage
+returns-then-stage c =
+    elim c.if-is_empty.branch [
+      | then-is_empty w ↦ going_ended c.args.notes.now c.args.history.now c.loop-rest.stage c.loop-rest.rest.now (eqb-true _ _ (sym c.is_empty.ensures ∙ w.if-is_empty.true))
+          (sym w.value-is ∙ c.if-stage.true) c.reaches.result c.reaches.ensures ∙ c.loop-rest.invariant
+      | else-is_empty w ↦ not_both c.if-stage.true (w.value-is ∙ w.if-is_empty.false)
+    ]
 
 pub returns-else-stage : goal.returns-else-stage
 returns-else-stage c =
-    let a = c.args in
-    let at-loop = c.loop-i in
-    going_wrong a.notes.now a.history a.order.now at-loop.stage at-loop.i at-loop.invariant
-    c.if-n-i-lt-WORDS.false c.place-stage.result c.place-stage.ensures c.if-stage.false
-
-pub returns-then-stage-2 : goal.returns-then-stage-2
-returns-then-stage-2 c =
-    let a = c.args in
-    let at-loop = c.loop-i in
-    going_ended a.notes.now a.history a.order.now at-loop.stage at-loop.i at-loop.invariant
-    c.loop-i-test.false c.reaches.result c.reaches.ensures
-    c.if-stage-2.true
-
-pub returns : goal.returns
-returns c =
-    let a = c.args in
-    let at-loop = c.loop-i in
-    going_pending a.notes.now a.history a.order.now at-loop.stage at-loop.i at-loop.invariant c.loop-i-test.false c.if-stage-2.false
+    c.if-stage.false
+    ∙ elim c.if-is_empty.branch [
+      | then-is_empty w ↦ going_pending c.args.notes.now c.args.history.now c.loop-rest.stage c.loop-rest.rest.now (eqb-true _ _ (sym c.is_empty.ensures ∙ w.if-is_empty.true))
+          (sym w.value-is ∙ c.if-stage.false) ∙ c.loop-rest.invariant
+      | else-is_empty w ↦ short_words c.args.notes.now c.args.history.now c.loop-rest.stage c.loop-rest.rest.now (omega (arith, eqb-false _ _ (sym c.is_empty.ensures ∙ w.if-is_empty.false)))
+          c.in_default.len_below ∙ c.loop-rest.invariant
+    ]

@@ -1,10 +1,10 @@
 -- What is left of the words goes through from the stage in hand exactly if all of them do from the start.
-use Prim.Native.Nat.{◌-◌}
-use Rattle.witness.proofs.Going.{Going}
+use Rattle.std.proofs.Common.{◌≡◌, length}
+use Rattle.witness.specs.WordsPlayed.{play_from, play_of}
 use Rattle.witness.proofs.replay.replay.Given as goal
 
-abbrev pub invariant-loop-i : goal.invariant-loop-i
-invariant-loop-i l = Going l.notes l.history l.order l.stage l.i
+abbrev pub invariant-loop-rest : goal.invariant-loop-rest
+invariant-loop-rest l = play_from l.notes l.history l.stage l.rest ≡ play_of l.notes l.history l.order
 
-abbrev pub decreases-loop-i : goal.decreases-loop-i
-decreases-loop-i l = l.n - l.i
+abbrev pub decreases-loop-rest : goal.decreases-loop-rest
+decreases-loop-rest l = length l.rest
