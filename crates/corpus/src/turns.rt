@@ -40,7 +40,8 @@ impl From<Refusal> for Stopped {
     }
 }
 
-// The event at a place; what follows it is handed on as the rest of the file.
+// The event at a place; what follows it is handed on as the rest of the file. Kind, marks and count stay apart, as in
+// stepping's comes_to.
 pub(crate) fn turn_at(
     file: &[u8],
     at: usize,

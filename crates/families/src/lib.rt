@@ -56,9 +56,9 @@ pub enum Kind {
     Vec(u32),
 }
 
-// An object; the items are a stack's storage, bottom first: with no heap, a rule of the project, an array of all the
-// room, and the depth in the kind.
-#[derive(Clone, Copy)]
+// An object; the items are a stack's storage, bottom first: an array of all the room, since no heap is a rule of the
+// project, and no ArrayVec, since a record may say a depth above the room, which check_shape refuses, and an object is Copy.
+#[derive(Clone, Copy, Debug, PartialEq, Eq)]
 pub struct Object {
     pub kind: Kind,
     pub items: [i32; ROOM],

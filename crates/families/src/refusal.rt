@@ -33,7 +33,8 @@ pub fn check_shape(kind: Kind) -> Result<(), Refusal>
     }
 }
 
-// Whether one in shape is small enough to start with.
+// Whether one in shape is small enough to start with. Apart from check_shape, as a stack's two checks are: one of both would
+// take check and refusal from its caller.
 #[tactic(auto, unfolding(crate::specs::Refusals::size_check))]
 fn check_size(kind: Kind) -> Result<(), Refusal>
     ensures { result ≡ size_check kind }

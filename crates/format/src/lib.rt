@@ -1,5 +1,5 @@
 // The fields of a corpus file, each read from its bytes: numbers, the header, and events. What a number means in a family
-// is the table of `families::codes`; nothing here names a family.
+// stands in `families::family` and `families::codes`; nothing here names a family.
 #![tactic(auto)]
 
 mod cursor;

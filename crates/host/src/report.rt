@@ -20,7 +20,7 @@ pub(crate) struct Report {
     pub(crate) threads: [u8; OPERATIONS],
 }
 
-// Refusals 4 and 5 have made the history invalid; any other is one of the file.
+// Refusals 4 and 5 have made the history invalid; any other is one of the file. Both are numbers, as the report's bytes are.
 #[tactic(auto, unfolding(crate::specs::Call::refused_verdict))]
 fn refused_verdict(number: u8) -> u8
     ensures { result ≡ refused_verdict number }

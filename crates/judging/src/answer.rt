@@ -50,8 +50,8 @@ pub(crate) fn nobody() -> Placed
     }
 }
 
-// `order` has `length` places, and nobody behind them: an array with its length, and no Vec, since the judge
-// has no heap.
+// `order` has `length` places, and nobody behind them: an array with its length, and no Vec, since the judge has no heap,
+// and no ArrayVec, since an answer is Copy and its clause says what stands in all places.
 #[derive(Clone, Copy)]
 pub struct Answer {
     pub verdict: Verdict,

@@ -27,7 +27,8 @@ pub struct Level {
 }
 
 // How a search ended, how many operations were placed then, and the attempts made. The path that `depth` measures
-// is a lent array, and no Vec, since the judge has no heap.
+// is a lent array, and no Vec, since the judge has no heap: path, levels and progress go back together by the one depth, so
+// that an ArrayVec for one of them would be no plainer.
 #[derive(Clone, Copy)]
 pub struct Stopped {
     pub verdict: Verdict,

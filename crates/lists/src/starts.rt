@@ -28,7 +28,8 @@ fn takes(form: StartForm, count: u32) -> bool {
 }
 
 // n v1 … vn to the end of the line: the object of that family which holds just these values. Where there is none, an
-// object that comes near it, with the largest count and the least value for those that can't be read.
+// object that comes near it, with the largest count and the least value for those that can't be read: wall runs what can't be
+// read all the same, so that this is no Option.
 pub fn object_of(family: Option<Family>, held: &[i64]) -> Result<Object, Object> {
     let number = match family {
         Some(family) => family as u32,

@@ -1,4 +1,5 @@
-// A tester of sequential consistency: it records what happens and keeps no notes.
+// A tester of sequential consistency: it records what happens and keeps no notes. Making one and recording differ from the
+// other tester's by the notes, so that each has its own.
 ghost use Rattle.std.specs.Prelude.{◌≡◌, ◌*◌, replicate};
 ghost use Rattle.values.specs.Sizes.{threads, capacity};
 ghost use Rattle.stepping.specs.OneStep.{event_of};

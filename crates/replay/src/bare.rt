@@ -3,17 +3,11 @@ use crate::came::{Answered, Came, Compare};
 use crate::codes::{is_said, step_at};
 use families::Object;
 use families::family::Family;
-use families::placing::held_of;
 use lists::codes::op_at;
 use lists::fields::{from, number_at};
 use lists::starts::object_of;
 use semantics::Stepped;
 use values::refusal::Refusal;
-
-// Whether two objects of one family are the same.
-fn is_same(a: Object, b: Object) -> bool {
-    held_of(a.kind) == held_of(b.kind) && a.items == b.items
-}
 
 fn says(said: Result<bool, Refusal>, answer: Option<u8>) -> bool {
     match said {
@@ -41,7 +35,7 @@ impl Started {
     // elsewhere.
     fn holds(&self, held: &[i64]) -> bool {
         match object_of(Some(self.family), held) {
-            Ok(said) => is_same(self.object, said),
+            Ok(said) => self.object == said,
             Err(_) => false,
         }
     }

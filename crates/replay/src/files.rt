@@ -12,12 +12,12 @@ const FILE: usize = LONGEST + ZEROS;
 
 const ROOM: usize = 100;
 
-// The bytes of an answer, and what stands in it where a thread number is unused.
+// The bytes of an answer, as C gets them, and what stands in it where a thread number is unused.
 const ANSWER: usize = 79;
 
 const UNUSED: u8 = 255;
 
-// The verdict's number where the file is refused.
+// The byte of the verdict where the file is refused; the judge's own verdicts have no such.
 const REFUSED: u8 = 4;
 
 // A buffer before the call: a number of its own at each place.

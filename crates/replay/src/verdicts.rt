@@ -57,7 +57,11 @@ fn is_placed(placed: Placed, family: Family, fields: &[i64]) -> bool {
 
 // What stands behind an order.
 fn is_blank(placed: Placed) -> bool {
-    placed.thread == NOBODY && placed.ret == no_ret()
+    let nobody = Placed {
+        thread: NOBODY,
+        ret: no_ret(),
+    };
+    placed == nobody
 }
 
 impl Due<'_> {

@@ -19,7 +19,8 @@ pub struct Invoked {
     pub object: Object,
 }
 
-// Whether a return, or a history, is right, and the object that is left.
+// Whether a return, or a history, is right, and the object that is left. It is no one type with Invoked, since theorems name
+// what each says, answer and said.
 #[derive(Clone, Copy)]
 pub struct Stepped {
     pub said: Result<bool, Refusal>,

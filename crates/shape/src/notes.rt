@@ -49,7 +49,8 @@ pub fn noted(history: &History, notes: &[u8; NOTES]) -> bool
 }
 
 // Writes the notes of an operation that is invoked now and gets that place; there are none for a place that no
-// operation has.
+// operation has. Notes, done, place and thread are no struct: here the notes are lent to write, in notes_fit to read, and
+// only one of the two testers has any.
 #[tactic(auto, unfolding(crate::specs::Notes::noted_at, crate::specs::Notes::notes_with))]
 pub fn note(notes: &mut [u8; NOTES], done: &[u8; THREADS], at: usize, own: u8)
     ensures { notes.new ≡ noted_at done.now own at notes.old }

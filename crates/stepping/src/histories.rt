@@ -21,7 +21,8 @@ pub struct Operation {
 #[derive(Clone, Copy)]
 pub struct History {
     pub start: Object,
-    // An array with a count beside it: a tester uses no heap, and document 01 gives the most that it holds.
+    // An array with a count beside it, since a tester uses no heap; and no ArrayVec, since a record may say any count,
+    // which a look at its shape refuses, and a tester is Copy.
     pub ops: [Operation; OPERATIONS],
     pub count: usize,
     pub done: [u8; THREADS],
@@ -47,7 +48,8 @@ fn empty(start: Object) -> History
     }
 }
 
-// A history as it begins, and what its start came to.
+// A history as it begins, and what its start came to. It is no New of recording's: there the field is a tester, and
+// theorems name both by their fields.
 #[derive(Clone, Copy)]
 pub struct Begun {
     pub made: Result<(), Refusal>,

@@ -38,7 +38,8 @@ pub fn thread_of(event: Event) -> u32
 }
 
 // What recording the event comes to, at a history of that validity and that many operations; the marks say where each
-// thread has its operation in flight.
+// thread has its operation in flight. Kind, marks and count are no struct: each function takes others besides, and the
+// loader holds the marks apart from the history.
 #[tactic(auto, unfolding(crate::specs::OneStep::comes_to, crate::specs::StepChecks::invoke_check, crate::specs::StepChecks::return_check, families::specs::Refusals::op_belongs, families::specs::Refusals::ret_belongs))]
 pub fn comes_to(
     event: Event,

@@ -5,7 +5,7 @@ ghost use Rattle.values.specs.Coded.{coded, maybe_coded, maybe_from};
 use crate::value::{signed_of, zigzag};
 
 // The number in its family, how many values it carries, and the value as a file sends it, 0 where there is none.
-// It is no Option: the theorem `numbers_tell` speaks of a count and a word, which files and proposed orders have.
+// It is no Option: the definitions `words_of` and `same_coded` say a count and a word, which files and proposed orders have.
 #[derive(Clone, Copy, Debug, PartialEq, Eq)]
 pub struct Coded {
     pub number: u32,

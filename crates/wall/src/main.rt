@@ -1,6 +1,5 @@
 // The traces of document 01 for the bench wall, run, a line each to hold beside it. They stand in data/traces.txt, which
-// begins with what its lines say. Behind them stand the
-// refusals that no trace draws: 3, 7, 8 and each cause of 9.
+// begins with what its lines say. Behind them stand the refusals that no trace draws: 3, 7, 8 and each cause of 9.
 #![tactic(auto)]
 
 mod bare;

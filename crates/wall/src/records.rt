@@ -49,7 +49,8 @@ fn ret_of(number: u8) -> Ret {
     }
 }
 
-// A record by its number in data/traces.txt and four numbers more.
+// A record by its number in data/traces.txt and four numbers more. Each is read in this one match, so that an enum between
+// would be no plainer.
 fn record_at(what: u8, fields: &[i64]) -> LinearizabilityTester {
     let a = small(fields, 0);
     let b = small(fields, 1);

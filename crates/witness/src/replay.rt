@@ -143,6 +143,7 @@ pub(crate) fn replay(history: &History, notes: &[u8; NOTES], order: &[u32]) -> b
         object: history.start,
     };
     let mut rest = order;
+    // Four words at a time; what is no whole place stays, and has to be nothing.
     while let [thread, number, count, word, after @ ..] = rest {
         let words = Coded {
             number: *number,
