@@ -6,7 +6,6 @@ ghost use Rattle.corpus.specs.LoadAnswers.{as_linearizability};
 
 use crate::feeding::feed;
 use crate::load::Loaded;
-use families::Object;
 use format::header::read_header;
 use recording::consistency_tester::ConsistencyTester;
 use recording::linearizability::LinearizabilityTester;
@@ -16,10 +15,10 @@ pub fn load(file: &[u8]) -> Loaded<LinearizabilityTester>
     ensures { result ≡ as_linearizability (load_of linearizability_model file.now) }
 {
     match read_header(file) {
-        Err(why) => Loaded {
-            number: u8::from(why),
+        Err(unread) => Loaded {
+            number: u8::from(unread.why),
             place: 0,
-            tester: LinearizabilityTester::new(Object::default_register()).tester,
+            tester: LinearizabilityTester::new(unread.start).tester,
         },
         Ok(header) => {
             let start = header.value;

@@ -62,3 +62,10 @@ start_back (Register v) items = ap Register (sent_back v)
 start_back (WORegister None) items = refl
 start_back (WORegister (Some v)) items = ap (λ (w : ℤ). WORegister (Some w)) (sent_back v)
 start_back (Vec d) items = refl
+
+-- What starts by a family's number is an object of that family.
+pub start_family : (f : Family) (c : Coded) (items : List ℤ) → c.number ≡ family_number f → family_of (start_from c items).kind ≡ f
+unfolding start_from new_register new_once new_stack family_of family_number
+start_family registers c items e = rw e refl
+start_family write_onces c items e = rw e refl
+start_family stacks c items e = rw e refl

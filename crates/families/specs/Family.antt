@@ -1,6 +1,6 @@
 -- The families, by name and by number: 0 register, 1 write-once register, 2 stack.
-use Rattle.std.specs.Prelude.{ℕ, ◌≡◌, refl, eqb, Option, Some, None}
-use Rattle.std.proofs.Common.{sym, ap, ◌∙◌}
+use Rattle.std.specs.Prelude.{ℕ, ℤ, pos, negsuc, ◌≡◌, refl, Bool, true, false, eqb, Option, Some, None}
+use Rattle.std.proofs.Common.{sym, ap, ◌∙◌, eqb-true}
 use Rattle.values.specs.Value.{pick}
 use Rattle.families.specs.declared.Kind.{Kind}
 use Rattle.families.specs.declared.Kind.TheVariants.{Register, WORegister, Vec}
@@ -41,6 +41,24 @@ unfolding family_at family_number
 family_at_lem registers = refl
 family_at_lem write_onces = refl
 family_at_lem stacks = refl
+
+-- the family that a number of a text tells
+unfoldable pub family_told : ℤ → Option Family
+family_told (pos n) = family_at n
+family_told (negsuc n) = None
+
+-- it has that number
+pub told_number : (z : ℤ) (f : Family) → family_told z ≡ Some f → z ≡ pos (family_number f)
+unfolding family_told family_at family_number
+told_number (negsuc n) f e = cc
+told_number (pos n) f e = ap pos (go (eqb n 0) refl (eqb n 1) refl (eqb n 2) refl e)
+  where
+    go : (a : Bool) → eqb n 0 ≡ a → (b : Bool) → eqb n 1 ≡ b → (c : Bool) → eqb n 2 ≡ c
+        → pick a (Some registers) (pick b (Some write_onces) (pick c (Some stacks) None)) ≡ Some f → n ≡ family_number f
+    go true p b q c r e = let own : registers ≡ f = cc in eqb-true n 0 p ∙ ap family_number own
+    go false p true q c r e = let own : write_onces ≡ f = cc in eqb-true n 1 q ∙ ap family_number own
+    go false p false q true r e = let own : stacks ≡ f = cc in eqb-true n 2 r ∙ ap family_number own
+    go false p false q false r e = cc
 
 -- families of one number are one family, so that a pair of them is compared by their numbers
 pub same_family : (f g : Family) → family_number f ≡ family_number g → f ≡ g

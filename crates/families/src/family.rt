@@ -1,6 +1,6 @@
 // The families, and what operations and returns have in common: each is of one family, and is told by numbers there.
-ghost use Rattle.std.specs.Prelude.{◌≡◌, ℕ, pos, IfOk};
-ghost use Rattle.families.specs.Family.{family_of, op_family, ret_family, family_number};
+ghost use Rattle.std.specs.Prelude.{◌≡◌, ℕ, Some, None, MatchResult};
+ghost use Rattle.families.specs.Family.{family_of, op_family, ret_family, family_number, family_told};
 ghost use Rattle.families.specs.Codes.{op_form, op_from, ret_form, ret_from};
 ghost use Rattle.families.specs.Decoded.{op_from_family, ret_from_family};
 
@@ -11,7 +11,7 @@ use objects::write_once_register::{WORegisterOp, WORegisterRet};
 use values::coded::{Coded, Form, Told};
 
 // With the numbers that tell them.
-#[derive(Clone, Copy, Debug, PartialEq, Eq)]
+#[derive(Clone, Copy, PartialEq, Eq)]
 pub enum Family {
     Register = 0,
     WORegister = 1,
@@ -19,15 +19,15 @@ pub enum Family {
 }
 
 // A number that tells no family.
-#[derive(Clone, Copy, Debug, PartialEq, Eq)]
+#[derive(Clone, Copy, PartialEq, Eq)]
 pub struct UnknownFamily;
 
 impl TryFrom<i64> for Family {
     type Error = UnknownFamily;
 
-    ghost try_from_gives = { λ number r. IfOk r (λ family. number ≡ pos (family_number family)) };
+    ghost try_from_gives = { λ number r. MatchResult r (λ family. family_told number ≡ Some family) (λ _. family_told number ≡ None) };
 
-    #[tactic(auto, unfolding(crate::specs::Family::family_number))]
+    #[tactic(auto, unfolding(crate::specs::Family::family_told, crate::specs::Family::family_at))]
     fn try_from(number: i64) -> Result<Self, UnknownFamily> {
         match number {
             0 => Ok(Family::Register),
@@ -35,6 +35,16 @@ impl TryFrom<i64> for Family {
             2 => Ok(Family::Vec),
             _ => Err(UnknownFamily),
         }
+    }
+}
+
+// The number of a family.
+impl From<Family> for u32 {
+    ghost from_gives = { λ family n. n ≡ family_number family };
+
+    #[tactic(auto, unfolding(crate::specs::Family::family_number))]
+    fn from(family: Family) -> u32 {
+        family as u32
     }
 }
 

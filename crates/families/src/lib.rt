@@ -17,7 +17,7 @@ use objects::write_once_register::{WORegisterOp, WORegisterRet};
 use values::sizes::ROOM;
 
 // An operation names its family and, inside it, its own operation.
-#[derive(Clone, Copy, Debug, PartialEq, Eq)]
+#[derive(Clone, Copy, PartialEq, Eq)]
 pub enum Op {
     Register(RegisterOp),
     WORegister(WORegisterOp),
@@ -25,7 +25,7 @@ pub enum Op {
 }
 
 // A return likewise.
-#[derive(Clone, Copy, Debug, PartialEq, Eq)]
+#[derive(Clone, Copy, PartialEq, Eq)]
 pub enum Ret {
     Register(RegisterRet),
     WORegister(WORegisterRet),
@@ -49,7 +49,7 @@ pub fn no_ret() -> Ret
 
 // What an object is and, but for a stack's items, what it holds: a register its value, a write-once
 // register nothing or a value, a stack its depth.
-#[derive(Clone, Copy, Debug, PartialEq, Eq)]
+#[derive(Clone, Copy, PartialEq, Eq)]
 pub enum Kind {
     Register(i32),
     WORegister(Option<i32>),
@@ -58,7 +58,7 @@ pub enum Kind {
 
 // An object; the items are a stack's storage, bottom first: an array of all the room, since no heap is a rule of the
 // project, and no ArrayVec, since a record may say a depth above the room, which check_shape refuses, and an object is Copy.
-#[derive(Clone, Copy, Debug, PartialEq, Eq)]
+#[derive(Clone, Copy, PartialEq, Eq)]
 pub struct Object {
     pub kind: Kind,
     pub items: [i32; ROOM],

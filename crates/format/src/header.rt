@@ -1,8 +1,8 @@
 // The header: the opening, the object and what it starts with.
 ghost use Rattle.std.specs.Prelude.{◌≡◌, ◌≤◌};
 ghost use Rattle.values.specs.Sizes.{start_room};
-ghost use Rattle.numbers.specs.Reader.{as_read};
 ghost use Rattle.format.specs.Format.{single_start, values, counted_start, start, header};
+ghost use Rattle.format.specs.ReadAnswers.{unread, as_header};
 ghost use Rattle.format.specs.Reads.{Reads};
 
 use crate::cursor::Cursor;
@@ -18,6 +18,24 @@ pub const LONGEST: usize = 65536;
 
 // The bytes that open a file, 52 41 57 31.
 const OPENING: &[u8] = b"RAW1";
+
+// Why a header is refused, and what a tester starts with then: the default register.
+#[derive(Clone, Copy, PartialEq, Eq)]
+pub struct Unread {
+    pub why: Refusal,
+    pub start: Object,
+}
+
+impl From<Refusal> for Unread {
+    ghost from_gives = { λ why refused. refused ≡ unread why };
+
+    fn from(why: Refusal) -> Unread {
+        Unread {
+            why,
+            start: Object::default_register(),
+        }
+    }
+}
 
 #[tactic(auto, using(crate::proofs::Reading::steps), unfolding(crate::specs::Format::single_start, crate::specs::Format::counted_start, crate::specs::Format::start))]
 impl Cursor<'_> {
@@ -72,16 +90,16 @@ impl Cursor<'_> {
 }
 
 // The header of a file: the object that it starts with, and where its events begin.
-pub fn read_header(file: &[u8]) -> Result<Got<Object>, Refusal>
-    ensures { result ≡ as_read (header file.now) }
+pub fn read_header(file: &[u8]) -> Result<Got<Object>, Unread>
+    ensures { result ≡ as_header (header file.now) }
 {
     let opened = file.starts_with(OPENING);
     let long = LONGEST < file.len();
     if long {
-        return Err(Refusal::TooLong);
+        return Err(Unread::from(Refusal::TooLong));
     }
     if !opened {
-        return Err(Refusal::Unopened);
+        return Err(Unread::from(Refusal::Unopened));
     }
     let mut cursor = Cursor::new(file, OPENING.len());
     let value = cursor.start()?;

@@ -6,7 +6,7 @@ use families::{Ret, no_ret};
 use values::sizes::OPERATIONS;
 
 // With its number in document 01.
-#[derive(Clone, Copy, Debug, PartialEq, Eq)]
+#[derive(Clone, Copy, PartialEq, Eq)]
 pub enum Verdict {
     Order = 0,
     NoOrder = 1,
@@ -32,7 +32,7 @@ pub fn is_consistent(verdict: Verdict) -> bool
 }
 
 // A place of an order: a thread, and the return that its operation has there.
-#[derive(Clone, Copy, Debug, PartialEq, Eq)]
+#[derive(Clone, Copy, PartialEq, Eq)]
 pub struct Placed {
     pub thread: u8,
     pub ret: Ret,

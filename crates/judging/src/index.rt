@@ -15,7 +15,8 @@ use values::sizes::{OPERATIONS, THREADS};
 const SLOTS: usize = THREADS * OPERATIONS;
 
 // A history in shape, with where each thread's operations stand in it: thread t's k-th one at
-// `slot[t * OPERATIONS + k]`. `started` has how many it has.
+// `slot[t * OPERATIONS + k]`. `started` has how many it has. Arrays with counts, and no ArrayVec for each thread: an index is
+// Copy, and the search asks for a place by thread and number in one look.
 #[derive(Clone, Copy)]
 pub struct Index<'a> {
     pub history: &'a History,

@@ -1,4 +1,5 @@
-// Operations and returns, told by the families' table of numbers.
+// Operations and returns, told by the families' table of numbers. A family and a line's fields are no struct: the family
+// stays, and the fields move on with each call.
 ghost use Rattle.std.specs.Prelude.{◌≤◌, IfSome};
 
 use crate::fields::number_at;

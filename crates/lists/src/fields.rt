@@ -6,7 +6,7 @@ ghost use Rattle.arrayvec.specs.ArrayVec.{array_vec_len};
 use arrayvec::ArrayVec;
 
 // A number that tells nothing of the kind that is asked for.
-#[derive(Clone, Copy, Debug)]
+#[derive(Clone, Copy)]
 pub struct Unknown;
 
 // The number at a place as a `T`, if it is one: as a number of so many bits, say, or as a family.

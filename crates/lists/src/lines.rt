@@ -10,17 +10,29 @@ pub const LONGEST: usize = 1200;
 // The largest size of a number that is read, above every number of the lists.
 const LARGEST: i64 = 4294967296;
 
-// A line as far as it is read: the numbers that are whole, and of the next one its digits so far and whether a sign
-// stands before it. The numbers lie in the value itself: memory is fixed, so that reading can't want for it. Contracts
-// see a line as its numbers.
-#[derive(Drop)]
-pub struct Line {
-    numbers: ArrayVec<i64, LONGEST>,
+// How far a line is read: of the number that comes next its digits so far, and whether a sign stands before it.
+#[derive(Clone, Copy)]
+pub struct Reading {
     digits: Option<i64>,
     is_below: bool,
-    // It has anything but numbers, or too many, and is read as one with none. Numbers and this are no Option: behind what
-    // spoils a line the numbers of its rest are still read over, into the same place.
+    // The line has anything but numbers, or too many, and is read as one with none. Numbers and this are no Option: behind
+    // what spoils a line the numbers of its rest are still read over, into the same place.
     is_spoilt: bool,
+}
+
+// Nothing is read.
+const BEGUN: Reading = Reading {
+    digits: None,
+    is_below: false,
+    is_spoilt: false,
+};
+
+// A line as far as it is read, with the numbers that are whole. They lie in the value itself: memory is fixed, so that
+// reading can't want for it. Contracts see a line as its numbers.
+#[derive(Clone, Drop)]
+pub struct Line {
+    numbers: ArrayVec<i64, LONGEST>,
+    reading: Reading,
 }
 
 impl Model for Line {
@@ -38,9 +50,7 @@ impl Line {
     {
         Line {
             numbers: ArrayVec::new(),
-            digits: None,
-            is_below: false,
-            is_spoilt: false,
+            reading: BEGUN,
         }
     }
 
@@ -51,7 +61,7 @@ impl Line {
     {
         match byte {
             b' ' | b'\n' => self.end_number(),
-            b'-' if self.digits.is_none() => self.is_below = true,
+            b'-' if self.reading.digits.is_none() => self.reading.is_below = true,
             b'0'..=b'9' => self.add_digit(byte - b'0'),
             _ => self.spoil(),
         }
@@ -70,27 +80,27 @@ impl Line {
         ensures { self.new ≡ [] }
     {
         self.numbers.clear();
-        self.is_spoilt = false;
+        self.reading = BEGUN;
     }
 
     fn spoil(&mut self)
         ensures { self.new ≡ [] }
     {
         self.numbers.clear();
-        self.is_spoilt = true;
+        self.reading.is_spoilt = true;
     }
 
     fn add_digit(&mut self, digit: u8)
         ensures { self.new ≡ self.old }
     {
-        let size = self.digits.unwrap_or(0);
+        let size = self.reading.digits.unwrap_or(0);
         let longer = size.saturating_mul(10).saturating_add(i64::from(digit));
-        self.digits = Some(longer);
+        self.reading.digits = Some(longer);
     }
 
     // The number that has ended; zero has no sign.
     fn number(&self) -> Option<i64> {
-        match (self.digits?, self.is_below) {
+        match (self.reading.digits?, self.reading.is_below) {
             (0, true) => None,
             (size @ 0..=LARGEST, true) => Some(-size),
             (size @ 0..=LARGEST, false) => Some(size),
@@ -102,13 +112,13 @@ impl Line {
         ensures { length self.new ≤ length self.old + 1 }
     {
         let is_kept = match self.number() {
-            Some(number) if !self.is_spoilt => self.numbers.try_push(number).is_ok(),
+            Some(number) if !self.reading.is_spoilt => self.numbers.try_push(number).is_ok(),
             _ => false,
         };
         if !is_kept {
             self.spoil();
         }
-        self.digits = None;
-        self.is_below = false;
+        self.reading.digits = None;
+        self.reading.is_below = false;
     }
 }

@@ -1,4 +1,7 @@
 // Objects, told by their family and what they hold.
+ghost use Rattle.std.specs.Prelude.{◌≡◌, IfSome};
+ghost use Rattle.families.specs.Family.{family_of, family_number};
+
 use crate::fields::{from, number_at};
 use families::codes::{start_form, start_from};
 use families::family::Family;
@@ -7,13 +10,22 @@ use values::coded::{Coded, StartForm};
 use values::sizes::{FULL, ROOM};
 use values::value::zigzag;
 
+// The number by which the families' tables tell a family; without a family one that is none's.
+fn number_of(family: Option<Family>) -> u32
+    ensures { IfSome family (λ f. result ≡ family_number f) }
+{
+    match family {
+        Some(family) => u32::from(family),
+        None => u32::MAX,
+    }
+}
+
 // What an object of that family is; without a family it is taken for a stack.
-pub fn kind_of(family: Option<Family>) -> Kind {
-    let object = match family {
-        Some(Family::Register) => Object::default_register(),
-        Some(Family::WORegister) => Object::default_write_once_register(),
-        Some(Family::Vec) | None => Object::default_stack(),
-    };
+pub fn kind_of(family: Option<Family>) -> Kind
+    ensures { IfSome family (λ f. family_of result ≡ f) }
+{
+    let coded = Coded::bare(number_of(family));
+    let object = start_from(coded, [0; ROOM]);
     object.kind
 }
 
@@ -31,10 +43,7 @@ fn takes(form: StartForm, count: u32) -> bool {
 // object that comes near it, with the largest count and the least value for those that can't be read: wall runs what can't be
 // read all the same, so that this is no Option.
 pub fn object_of(family: Option<Family>, held: &[i64]) -> Result<Object, Object> {
-    let number = match family {
-        Some(family) => family as u32,
-        None => u32::MAX,
-    };
+    let number = number_of(family);
     let count = number_at(held, 0).unwrap_or(u32::MAX);
     let values = from(held, 1);
     let mut items = [0; ROOM];

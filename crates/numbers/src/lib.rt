@@ -10,7 +10,7 @@ ghost use Rattle.numbers.specs.Number.{too_big, number};
 use refusal::Refusal;
 
 // What a field says, and the place behind it.
-#[derive(Clone, Copy, Debug, PartialEq, Eq)]
+#[derive(Clone, Copy, PartialEq, Eq)]
 pub struct Got<T> {
     pub value: T,
     pub next: usize,

@@ -6,13 +6,13 @@ ghost use Rattle.objects.specs.Register.{register_answer, register_after, regist
 use values::coded::{Coded, Form, Told};
 use values::value::{signed_of, zigzag};
 
-#[derive(Clone, Copy, Debug, PartialEq, Eq)]
+#[derive(Clone, Copy, PartialEq, Eq)]
 pub enum RegisterOp {
     Write(i32),
     Read,
 }
 
-#[derive(Clone, Copy, Debug, PartialEq, Eq)]
+#[derive(Clone, Copy, PartialEq, Eq)]
 pub enum RegisterRet {
     WriteOk,
     ReadOk(i32),

@@ -10,14 +10,14 @@ use values::refusal::Refusal;
 use values::sizes::{FULL, ROOM, START};
 use values::value::signed_of;
 
-#[derive(Clone, Copy, Debug, PartialEq, Eq)]
+#[derive(Clone, Copy, PartialEq, Eq)]
 pub enum VecOp {
     Push(i32),
     Pop,
     Len,
 }
 
-#[derive(Clone, Copy, Debug, PartialEq, Eq)]
+#[derive(Clone, Copy, PartialEq, Eq)]
 pub enum VecRet {
     PushOk,
     PopOk(Option<i32>),

@@ -8,13 +8,13 @@ ghost use Rattle.objects.specs.WriteOnce.{writes, once_answer, once_after, once_
 use values::coded::{Coded, Form, Told};
 use values::value::signed_of;
 
-#[derive(Clone, Copy, Debug, PartialEq, Eq)]
+#[derive(Clone, Copy, PartialEq, Eq)]
 pub enum WORegisterOp {
     Write(i32),
     Read,
 }
 
-#[derive(Clone, Copy, Debug, PartialEq, Eq)]
+#[derive(Clone, Copy, PartialEq, Eq)]
 pub enum WORegisterRet {
     WriteOk,
     WriteFail,

@@ -103,7 +103,7 @@ impl Compare for Objects {
         };
         self.started = Some(object);
         Some(Came::Answered(Answered {
-            group: object.family as usize,
+            group: u32::from(object.family) as usize,
             call,
             agrees,
         }))

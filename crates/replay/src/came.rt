@@ -1,7 +1,7 @@
 // What a line came to.
 
-// An answer to one of a list's three calls on one of its three groups, by their places in the tally, and whether the port
-// agrees with it.
+// An answer to one of a list's three calls on one of its three groups, and whether the port agrees with it. Group and call are
+// places in the tally, and no enums, since they are families and calls in one list and models in another.
 #[derive(Clone, Copy)]
 pub struct Answered {
     pub group: usize,

@@ -72,16 +72,9 @@ impl Said {
     }
 }
 
-// A file: these bytes, and so many zeros.
-fn file_of(bytes: &[i64], zeros: usize) -> Option<ArrayVec<u8, FILE>> {
-    if zeros > ZEROS {
-        return None;
-    }
-    let mut file: ArrayVec<u8, FILE> = all_of(bytes)?;
-    for _ in 0..zeros {
-        file.try_push(0).ok()?;
-    }
-    Some(file)
+// Storage for a file, of zeros. Handed out by a function, so that only its length is known where it is lent.
+fn blank() -> [u8; FILE] {
+    [0; FILE]
 }
 
 // MODEL HIGH LOW ROOM Z n f1 … fn R k a1 … ak
@@ -95,10 +88,19 @@ fn answered_at(line: &[i64]) -> Option<Answered> {
     let count: usize = number_at(line, 5)?;
     let (bytes, rest) = from(line, 6).split_at_checked(count)?;
     let said = said_at(rest)?;
-    let file = file_of(bytes, zeros)?;
+    if zeros > ZEROS {
+        return None;
+    }
+    // The bytes are laid over zeros, of which so many count as the file has behind them: a file that is handed on by value
+    // would cost more than the call.
+    let mut storage = blank();
+    for (place, &byte) in storage.iter_mut().zip(bytes) {
+        *place = u8::try_from(byte).ok()?;
+    }
+    let file = storage.get(..bytes.len() + zeros)?;
     let mut buffer = marked();
     let answer = buffer.get_mut(..room)?;
-    let number = host::kilteshva_judge(file.as_slice(), model, budget, answer);
+    let number = host::kilteshva_judge(file, model, budget, answer);
     Some(Answered {
         group: (model as usize).min(2),
         call: said.outcome(),

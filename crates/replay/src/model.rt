@@ -24,7 +24,7 @@ impl TryFrom<i64> for Model {
 }
 
 impl Model {
-    pub fn judge(self, testers: Testers, budget: u64) -> Answer {
+    pub fn judge(self, testers: &Testers, budget: u64) -> Answer {
         match self {
             Model::Sequential => judge(testers.sequential, budget),
             Model::Linearizable => judge(testers.linearizability, budget),
@@ -32,7 +32,7 @@ impl Model {
     }
 
     // Whether the checker takes the words of a proposed order.
-    pub fn check(self, testers: Testers, order: &[u32]) -> bool {
+    pub fn check(self, testers: &Testers, order: &[u32]) -> bool {
         match self {
             Model::Sequential => check(testers.sequential, order),
             Model::Linearizable => check(testers.linearizability, order),

@@ -8,7 +8,7 @@ use testers::Testers;
 const MOST: usize = 1024;
 
 // M Y k w1 … wk to the end of the line: the model, and whether its checker takes the order of these words as Y says.
-pub fn compared(testers: Testers, fields: &[i64]) -> Option<(Model, bool)> {
+pub fn compared(testers: &Testers, fields: &[i64]) -> Option<(Model, bool)> {
     let model: Model = number_at(fields, 0)?;
     let is_legal = match number_at(fields, 1)? {
         0u8 => false,

@@ -5,7 +5,7 @@ use families::family::Family;
 use lists::events::{Event, event_at};
 use lists::fields::{from, number_at};
 use lists::starts::object_of;
-use testers::{Answers, Testers};
+use testers::{Answer, Testers};
 
 // What a list asks: what each event is answered, or for verdicts on the events so far, or whether proposed orders of
 // them are legal.
@@ -17,13 +17,12 @@ pub enum Asks {
 }
 
 // Whether both testers gave that number, and then hold so many operations.
-fn both_are(answers: Answers, number: u8, len: Option<usize>) -> bool {
-    let a = answers.linearizability;
-    let b = answers.sequential;
+fn both_are(a: Answer, b: Answer, number: u8, len: Option<usize>) -> bool {
     (a.number, Some(a.len)) == (number, len) && (b.number, Some(b.len)) == (number, len)
 }
 
-// Both testers, and whether the list has said Err of an event since they were made.
+// Both testers, and whether the list has said Err of an event since they were made. It shares its name with what a line of
+// bare objects starts, and no more: another thing is started, and other lines ask about it.
 #[derive(Clone, Copy)]
 struct Started {
     family: Family,
@@ -37,7 +36,7 @@ impl Started {
         let family = number_at(fields, 0)?;
         let object = object_of(Some(family), from(fields, 1)).ok()?;
         let answers = Testers::new(object);
-        if !both_are(answers, 0, Some(0)) {
+        if !both_are(answers.linearizability, answers.sequential, 0, Some(0)) {
             return None;
         }
         Some(Started {
@@ -45,14 +44,6 @@ impl Started {
             testers: answers.testers,
             has_refused: false,
         })
-    }
-
-    // An event, fed to both.
-    fn feed(&mut self, line: &[i64]) -> Option<(Event, Answers)> {
-        let event = event_at(Some(self.family), line)?;
-        let answers = event.feed(self.testers);
-        self.testers = answers.testers;
-        Some((event, answers))
     }
 
     // The number of an event of which the Rust said Err: 1 after an earlier one; else 5 for a return, which then had
@@ -66,9 +57,8 @@ impl Started {
     }
 
     // An event and Y L to the end of the line: Y is 1 where the Rust said Ok, and L how many operations there are then.
-    // The call, and whether both testers answer so.
-    fn hear(&mut self, line: &[i64]) -> Option<(usize, bool)> {
-        let (event, answers) = self.feed(line)?;
+    // The call, and whether both testers answered so.
+    fn hear(&mut self, event: Event, a: Answer, b: Answer, line: &[i64]) -> Option<(usize, bool)> {
         let (call, said) = match event {
             Event::Invoke { .. } => (0, from(line, 4)),
             Event::Return { .. } => (1, from(line, 5)),
@@ -82,8 +72,7 @@ impl Started {
         if number != 0 {
             self.has_refused = true;
         }
-        let agrees = both_are(answers, number, number_at(said, 1));
-        Some((call, agrees))
+        Some((call, both_are(a, b, number, number_at(said, 1))))
     }
 }
 
@@ -100,40 +89,60 @@ impl Sequences {
             started: None,
         }
     }
-}
 
-impl Compare for Sequences {
-    // New testers, or an event or a question to those that there are. After a line that can't be read there are none, so
-    // that nothing can be asked up to the next start.
-    fn compare(&mut self, line: &[i64]) -> Option<Came> {
-        let started = self.started.take();
+    // New testers. Apart, and never put in line: what is worked with here is large, and would be cleared at each line.
+    #[inline(never)]
+    fn start(&mut self, fields: &[i64]) -> Option<Came> {
+        self.started = Started::at(fields);
+        self.started.is_some().then_some(Came::Started)
+    }
+
+    // New testers, or an event or a question to those that there are.
+    fn read(&mut self, line: &[i64]) -> Option<Came> {
         if let [0, fields @ ..] = line {
-            self.started = Some(Started::at(fields)?);
-            return Some(Came::Started);
+            return self.start(fields);
         }
-        let mut sequence = started?;
-        let family = sequence.family;
-        let (call, agrees) = match (self.asks, line) {
-            (Asks::Events, _) => sequence.hear(line)?,
+        let asks = self.asks;
+        let sequence = self.started.as_mut()?;
+        let (call, agrees) = match (asks, line) {
             (Asks::Verdicts, [3, fields @ ..]) => {
-                let (model, agrees) = verdicts::compared(sequence.testers, family, fields)?;
+                let (model, agrees) = verdicts::compared(
+                    &sequence.testers,
+                    sequence.family,
+                    fields,
+                )?;
                 (model as usize, agrees)
             }
             (Asks::Orders, [3, fields @ ..]) => {
-                let (model, agrees) = proposals::compared(sequence.testers, fields)?;
+                let (model, agrees) = proposals::compared(&sequence.testers, fields)?;
                 (model as usize, agrees)
             }
             _ => {
-                let _ = sequence.feed(line)?;
-                self.started = Some(sequence);
-                return Some(Came::Fed);
+                // Fed here and nowhere else, and the testers are handed on by no Option: they are large.
+                let event = event_at(Some(sequence.family), line)?;
+                let answers = event.feed(sequence.testers);
+                sequence.testers = answers.testers;
+                if asks != Asks::Events {
+                    return Some(Came::Fed);
+                }
+                sequence.hear(event, answers.linearizability, answers.sequential, line)?
             }
         };
-        self.started = Some(sequence);
         Some(Came::Answered(Answered {
-            group: family as usize,
+            group: u32::from(sequence.family) as usize,
             call,
             agrees,
         }))
+    }
+}
+
+impl Compare for Sequences {
+    // After a line that can't be read there are no testers, so that nothing can be asked up to the next start.
+    fn compare(&mut self, line: &[i64]) -> Option<Came> {
+        let came = self.read(line);
+        if came.is_none() {
+            self.started = None;
+        }
+        came
     }
 }

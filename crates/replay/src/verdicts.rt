@@ -92,7 +92,7 @@ impl Due<'_> {
 }
 
 // M A K, and for an order n and n times T OP V RET RN RV: the model, and whether its judge answers so.
-pub fn compared(testers: Testers, family: Family, fields: &[i64]) -> Option<(Model, bool)> {
+pub fn compared(testers: &Testers, family: Family, fields: &[i64]) -> Option<(Model, bool)> {
     let model: Model = number_at(fields, 0)?;
     let due = due_at(family, from(fields, 1))?;
     let agrees = due.is(model.judge(testers, due.attempts))

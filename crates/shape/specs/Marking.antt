@@ -1,6 +1,7 @@
 -- The marks that the pass hands back say where each thread has its operation in flight.
-use Rattle.std.specs.Prelude.{ℕ, zero, suc, ◌+◌, ◌-◌, ◌<◌, ◌≡◌, refl, Bool, true, false, List, [], ◌∷◌, length, get_or, eqb, is_some, Option, Some, None}
+use Rattle.std.specs.Prelude.{ℕ, zero, suc, ◌+◌, ◌-◌, ◌<◌, ◌≡◌, refl, Bool, true, false, List, [], ◌∷◌, map, length, get_or, eqb, is_some, Option, Some, None}
 use Rattle.std.proofs.Common.{sym, ap, ◌∙◌, arith, eqb-true, ne_eqb}
+use Rattle.std.proofs.Math.ListN.{get_or-map}
 use Rattle.std.proofs.lemmas.Bool.{eqb-false}
 use Rattle.values.specs.Value.{pick}
 use Rattle.values.specs.Sizes.{threads}
@@ -68,3 +69,8 @@ place_back (Some i) =
     let n : i + 1 - 1 ≡ i = omega arith in
     rw (ne_eqb (i + 1) 0 (λ e. omega arith), n) refl
 place_back None = refl
+
+-- So told, the marks that the pass hands back say where each thread has its operation in flight.
+pub marks_told : (h : History) (t n i : ℕ) → i < n → place_of (get_or (map mark_of (marks_from t n h)) i 0) ≡ find_flying (i + t) h
+marks_told h t n i l =
+    ap place_of (get_or-map mark_of (marks_from t n h) i None) ∙ place_back (get_or (marks_from t n h) i None) ∙ mark_at h t n i l

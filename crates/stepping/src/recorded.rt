@@ -6,7 +6,7 @@ ghost use Rattle.stepping.specs.EventSteps.{reason_number, number_by};
 use values::refusal::Refusal;
 
 // Why an event is refused.
-#[derive(Clone, Copy, Debug, PartialEq, Eq)]
+#[derive(Clone, Copy, PartialEq, Eq)]
 pub enum Reason {
     AlreadyInvalid,
     NoSuchThread,

@@ -19,7 +19,7 @@ pub struct Testers {
 
 // The number that a call gave, 0 where it refused nothing, and how many operations the tester then holds. Events and
 // starts are refused for reasons of their own; a list tells both by document 01's number, and so does the definition `answer`.
-#[derive(Clone, Copy, Debug, PartialEq, Eq)]
+#[derive(Clone, Copy, PartialEq, Eq)]
 pub struct Answer {
     pub number: u8,
     pub len: usize,

@@ -6,7 +6,7 @@ use crate::value::{signed_of, zigzag};
 
 // The number in its family, how many values it carries, and the value as a file sends it, 0 where there is none.
 // It is no Option: the definitions `words_of` and `same_coded` say a count and a word, which files and proposed orders have.
-#[derive(Clone, Copy, Debug, PartialEq, Eq)]
+#[derive(Clone, Copy, PartialEq, Eq)]
 pub struct Coded {
     pub number: u32,
     pub count: u32,
@@ -15,7 +15,7 @@ pub struct Coded {
 
 // What follows the number of an operation or a return: nothing, a number, or a flag and, where it is 1, a number. That the
 // number is unknown is a case beside these, and no None around them: who reads asks once, in one match.
-#[derive(Clone, Copy, Debug, PartialEq, Eq)]
+#[derive(Clone, Copy, PartialEq, Eq)]
 pub enum Form {
     Unknown,
     Bare,
@@ -24,7 +24,7 @@ pub enum Form {
 }
 
 // What follows the number of an object: a number, a flag and a number, or a count and so many numbers. Unknown likewise.
-#[derive(Clone, Copy, Debug, PartialEq, Eq)]
+#[derive(Clone, Copy, PartialEq, Eq)]
 pub enum StartForm {
     Unknown,
     Number,

@@ -43,15 +43,18 @@ impl fmt::Display for Told {
     }
 }
 
-// One line for both models.
+// One line for both models. Each judge is asked when what stands before its answer is written, so that a search that goes
+// on and on keeps nothing back, and one is not begun where nothing more can be written.
 pub fn tell_verdicts(
     rt: &impl Print,
     testers: Testers,
     family: Option<Family>,
     budget: u64,
 ) -> io::Result<()> {
-    let a = judge(testers.linearizability, budget);
-    let b = judge(testers.sequential, budget);
-    print!(rt; "linearizable: {}", Told { family, answer: a })?;
-    println!(rt; " | sequential: {}", Told { family, answer: b })
+    print!(rt; "linearizable: ")?;
+    let answer = judge(testers.linearizability, budget);
+    print!(rt; "{}", Told { family, answer })?;
+    print!(rt; " | sequential: ")?;
+    let answer = judge(testers.sequential, budget);
+    println!(rt; "{}", Told { family, answer })
 }

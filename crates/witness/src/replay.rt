@@ -3,7 +3,7 @@ ghost use Rattle.std.specs.Prelude.{◌+◌, ◌≤◌, ◌<◌, ◌≡◌, [], 
 ghost use Rattle.values.specs.Sizes.{threads, capacity};
 ghost use Rattle.witness.specs.WordsPlayed.{place_of, reaches_of, answered_of, said_yes, settle_of, stage_after, play_of};
 
-use crate::words::describes;
+use crate::words::{WORDS, describes};
 use families::{Object, Op, Ret};
 use semantics::{invoke, is_valid_step};
 use shape::notes::NOTES;
@@ -143,8 +143,11 @@ pub(crate) fn replay(history: &History, notes: &[u8; NOTES], order: &[u32]) -> b
         object: history.start,
     };
     let mut rest = order;
-    // Four words at a time; what is no whole place stays, and has to be nothing.
-    while let [thread, number, count, word, after @ ..] = rest {
+    // A place at a time; what is no whole place stays, and has to be nothing.
+    while let Some((place_words, after)) = rest.split_at_checked(WORDS) {
+        let [thread, number, count, word] = place_words else {
+            return false;
+        };
         let words = Coded {
             number: *number,
             count: *count,

@@ -3,8 +3,8 @@ use Rattle.std.proofs.Common.{◌≡◌, length}
 use Rattle.witness.specs.WordsPlayed.{play_from, play_of}
 use Rattle.witness.proofs.replay.replay.Given as goal
 
-abbrev pub invariant-loop-rest : goal.invariant-loop-rest
-invariant-loop-rest l = play_from l.notes l.history l.stage l.rest ≡ play_of l.notes l.history l.order
+abbrev pub invariant-loop-place_words : goal.invariant-loop-place_words
+invariant-loop-place_words l = play_from l.notes l.history l.stage l.rest ≡ play_of l.notes l.history l.order
 
-abbrev pub decreases-loop-rest : goal.decreases-loop-rest
-decreases-loop-rest l = length l.rest
+abbrev pub decreases-loop-place_words : goal.decreases-loop-place_words
+decreases-loop-place_words l = length l.rest
