@@ -20,7 +20,7 @@ pub const LONGEST: usize = 65536;
 const OPENING: &[u8] = b"RAW1";
 
 // Why a header is refused, and what a tester starts with then: the default register.
-#[derive(Clone, Copy, PartialEq, Eq)]
+#[derive(Clone, Copy)]
 pub struct Unread {
     pub why: Refusal,
     pub start: Object,

@@ -1,5 +1,5 @@
 -- A family's number starts an object of that family.
-use Rattle.std.specs.Prelude.{ℕ, ℤ, ◌≡◌, List, Option, Some, None, IfSome}
+use Rattle.std.specs.Prelude.{ℤ, ◌≡◌, List, Option, Some, None, IfSome}
 use Rattle.values.specs.declared.coded.Coded.{Coded}
 use Rattle.families.specs.declared.Object.{Object}
 use Rattle.families.specs.declared.family.Family.{Family}
