@@ -60,6 +60,11 @@ told_number (pos n) f e = ap pos (go (eqb n 0) refl (eqb n 1) refl (eqb n 2) ref
     go false p false q true r e = let own : stacks ≡ f = cc in eqb-true n 2 r ∙ ap family_number own
     go false p false q false r e = cc
 
+-- and each family is told by its number
+pub number_told : (f : Family) → family_told (pos (family_number f)) ≡ Some f
+unfolding family_told
+number_told f = family_at_lem f
+
 -- families of one number are one family, so that a pair of them is compared by their numbers
 pub same_family : (f g : Family) → family_number f ≡ family_number g → f ≡ g
 same_family f g e = let z : Some f ≡ Some g = sym (family_at_lem f) ∙ ap family_at e ∙ family_at_lem g in cc

@@ -145,7 +145,7 @@ pub(crate) fn replay(history: &History, notes: &[u8; NOTES], order: &[u32]) -> b
     let mut rest = order;
     // A place at a time; what is no whole place stays, and has to be nothing.
     while let Some((place_words, after)) = rest.split_at_checked(WORDS) {
-        // So many words are these four, and no others come here.
+        // A place has WORDS words, which are these four: the way out is never taken.
         let [thread, number, count, word] = place_words else {
             return false;
         };
